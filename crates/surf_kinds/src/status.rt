@@ -1,0 +1,36 @@
+//! How a run ends.
+
+ghost use Rattle.std.specs.Prelude.{◌≡◌};
+ghost use Rattle.surf_kinds.specs.Status.{code_of};
+
+/// Memory ran out.
+#[derive(Clone, Copy, Debug, PartialEq, Eq)]
+pub struct NoMemory;
+
+/// How a program ends.
+#[derive(Clone, Copy, Debug, PartialEq, Eq)]
+pub enum Status {
+    /// The whole text was written.
+    Done,
+    /// The words of the command line have no reading.
+    Words,
+    /// The text that was read has a fault.
+    Faulty,
+    /// A limit was met.
+    Limit,
+    /// Reading failed.
+    ReadFault,
+    /// Writing failed.
+    WriteFault,
+    /// Memory ran out.
+    Memory,
+}
+
+impl Status {
+    /// The exit status of a program, from 0 to 6 in the order of the variants.
+    pub fn code(self) -> u8
+        ensures { result ≡ code_of self }
+    {
+        self as u8
+    }
+}
