@@ -13,7 +13,11 @@ fn keys_go_by_time_and_then_by_place(rt: HostRuntime) {
     assert!(rt; key(1, 9) < key(2, 0));
     assert!(rt; key(1, 8) < key(1, 9));
     assert!(rt; key(1, 8) >= key(1, 8));
-    assert_eq!(rt; key(1, 8).after(), key(1, 9));
+    let first = Key {
+        time: 1,
+        place: Place(8),
+    };
+    assert_eq!(rt; first.after(), key(1, 9));
 }
 
 #[test]
