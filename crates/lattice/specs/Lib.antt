@@ -1,0 +1,4 @@
+pub mod Shape
+pub mod Places
+pub mod Channels
+pub mod Surface

@@ -1,0 +1,71 @@
+-- The places of a lattice: its sites, and its pairs of neighbours.
+--
+-- Site s stands in row s / columns and in column s % columns. Place 8 * s is site s alone. Places 8 * s + 1,
+-- 8 * s + 2 and, on the hexagonal lattice, 8 * s + 3 are its pairs with the east, the south and the south-west.
+use Rattle.std.specs.Prelude.{◌≡◌, ℕ, ◌+◌, ◌-◌, ◌*◌, ◌/◌, ◌%◌, List, map, Option, Some, None, Bool, true, false, ◌==◌, ◌&&◌, ◌⊎◌, ◌↔◌, nat_le, nat_lt, if◌then◌else◌, Contains}
+use Rattle.std.specs.List.Sorted.{IsStrictlyIncreasing}
+use Rattle.surf_kinds.specs.declared.site.SiteId.{SiteId}
+use Rattle.surf_kinds.specs.declared.site.Sites.{Sites}
+use Rattle.surf_kinds.specs.declared.event.Place.{Place}
+use Rattle.lattice.specs.declared.grid.Kind.{Kind}
+use Rattle.lattice.specs.declared.grid.Kind.TheVariants.{Square, Hex}
+use Rattle.lattice.specs.Shape.{Shape}
+
+-- a step past an edge comes in at the other one, where that dimension has at least 3 sites
+abbrev pub wraps : Bool → ℕ → Bool
+wraps wrap size = wrap && nat_le 3 size
+
+-- the coordinate after i in a dimension of this size, where the step leads to one
+abbrev pub forward : Bool → ℕ → ℕ → Option ℕ
+forward wrap size i = if nat_lt (i + 1) size then Some (i + 1) else (if wraps wrap size then Some 0 else None)
+
+-- the coordinate before i
+abbrev pub back : Bool → ℕ → ℕ → Option ℕ
+back wrap size i = if nat_lt 0 i then Some (i - 1) else (if wraps wrap size then Some (size - 1) else None)
+
+-- the site of a row and a column
+abbrev pub site_at : ℕ → Option ℕ → Option ℕ → Option SiteId
+site_at cols None col = None
+site_at cols (Some row) None = None
+site_at cols (Some row) (Some col) = Some (record { 0 = row * cols + col })
+
+abbrev pub is_hex : Kind → Bool
+is_hex Square = false
+is_hex Hex = true
+
+-- where the step of the pair leads: 1 to the east, 2 to the south, 3 to the south-west
+abbrev pub neighbour : Shape → ℕ → ℕ → Option SiteId
+neighbour l s d =
+    if d == 1 then site_at l.cols (Some (s / l.cols)) (forward l.wrap l.cols (s % l.cols))
+    else (if d == 2 then site_at l.cols (forward l.wrap l.rows (s / l.cols)) (Some (s % l.cols))
+    else (if d == 3 && is_hex l.kind then site_at l.cols (forward l.wrap l.rows (s / l.cols)) (back l.wrap l.cols (s % l.cols))
+    else None))
+
+abbrev pub paired : ℕ → Option SiteId → Option Sites
+paired s None = None
+paired s (Some n) = Some (record { first = record { 0 = s }; second = Some n })
+
+abbrev pub sites_at : Shape → ℕ → ℕ → Option Sites
+sites_at l s d = if d == 0 then Some (record { first = record { 0 = s }; second = None }) else paired s (neighbour l s d)
+
+-- the sites of a place, where the number is one
+unfoldable pub sites_of : Shape → ℕ → Option Sites
+sites_of l place = if nat_lt (place / 8) (l.rows * l.cols) then sites_at l (place / 8) (place % 8) else None
+
+-- the site is one of these
+abbrev pub IsAmong : ℕ → Sites → Type 0
+IsAmong s sites = (sites.first.0 ≡ s) ⊎ (sites.second ≡ Some (record { 0 = s }))
+
+-- the number is a place that has the site
+pub record HasSite (l : Shape) (place s : ℕ) : Type 0 where
+  pub sites : Sites
+  pub is : sites_of l place ≡ Some sites
+  pub among : IsAmong s sites
+
+abbrev pub number_of : Place → ℕ
+number_of place = place.0
+
+-- these are all the places of the site, rising
+pub record ArePlacesOf (l : Shape) (s : ℕ) (places : List Place) : Type 0 where
+  pub rising : IsStrictlyIncreasing (map number_of places)
+  pub exactly : (place : ℕ) → HasSite l place s ↔ Contains places (record { 0 = place })

@@ -1,0 +1,58 @@
+-- What an event makes of a surface, which is a list of the states of its sites.
+use Rattle.std.specs.Prelude.{ℕ, ◌+◌, ◌/◌, ◌%◌, List, [], ◌∷◌, Option, Some, None, ◌==◌, if◌then◌else◌, slice_get, slice_set, map}
+use Rattle.surf_kinds.specs.declared.rule.Rule.{Rule}
+use Rattle.surf_kinds.specs.declared.rule.Rule.TheVariants.{One, Two}
+use Rattle.surf_kinds.specs.declared.site.SiteState.{SiteState}
+use Rattle.surf_kinds.specs.declared.site.SpeciesId.{SpeciesId}
+use Rattle.surf_kinds.specs.declared.site.SiteId.{SiteId}
+use Rattle.surf_kinds.specs.declared.site.Sites.{Sites}
+use Rattle.surf_kinds.specs.declared.event.Event.{Event}
+use Rattle.lattice.specs.Shape.{Shape}
+use Rattle.lattice.specs.Places.{sites_of}
+
+-- a site that was never rewritten
+abbrev pub fresh : SpeciesId → SiteState
+fresh species = record { species = species; version = 0; last = 0 }
+
+-- the first surface of these species
+abbrev pub first_surface : List SpeciesId → List SiteState
+first_surface cells = map fresh cells
+
+-- the new species of the first site, by the rule and the way of the channel
+abbrev pub first_product : Option Rule → ℕ → SpeciesId → SpeciesId
+first_product None way s = s
+first_product (Some (One rate a c)) way s = c
+first_product (Some (Two rate a b c d)) way s = if way == 0 then c else d
+
+-- the new species of the second site
+abbrev pub second_product : Option Rule → ℕ → SpeciesId → SpeciesId
+second_product None way s = s
+second_product (Some (One rate a c)) way s = s
+second_product (Some (Two rate a b c d)) way s = if way == 0 then d else c
+
+abbrev pub rewritten : SpeciesId → ℕ → SiteState → SiteState
+rewritten species time s = record { species = species; version = s.version + 1; last = time }
+
+-- a site with a new species, also where that is the old one; the others stay
+abbrev pub rewrite : (SpeciesId → SpeciesId) → ℕ → ℕ → Option SiteState → List SiteState → List SiteState
+rewrite product time i None sites = sites
+rewrite product time i (Some s) sites = slice_set sites i (rewritten (product s.species) time s)
+
+abbrev pub rewrite_second : (SpeciesId → SpeciesId) → ℕ → Option SiteId → List SiteState → List SiteState
+rewrite_second product time None sites = sites
+rewrite_second product time (Some j) sites = rewrite product time j.0 (slice_get sites j.0) sites
+
+abbrev pub rewrite_all : List Rule → Event → Option Sites → List SiteState → List SiteState
+rewrite_all rules e None sites = sites
+rewrite_all rules e (Some p) sites =
+    rewrite_second (second_product (slice_get rules (e.channel / 2)) (e.channel % 2)) e.time p.second
+    (rewrite (first_product (slice_get rules (e.channel / 2)) (e.channel % 2)) e.time p.first.0 (slice_get sites p.first.0) sites)
+
+-- the surface after an event: each site of its place is rewritten, and all others stay
+abbrev pub after : Shape → List Rule → List SiteState → Event → List SiteState
+after l rules sites e = rewrite_all rules e (sites_of l e.place.0) sites
+
+-- after a list of events, from the first to the last
+abbrev pub after_all : Shape → List Rule → List SiteState → List Event → List SiteState
+after_all l rules sites [] = sites
+after_all l rules sites (e ∷ es) = after_all l rules (after l rules sites e) es

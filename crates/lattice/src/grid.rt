@@ -1,0 +1,109 @@
+//! The lattice and its sites.
+
+ghost use Rattle.std.specs.Prelude.{◌≡◌, ◌≤◌, ◌<◌, ◌*◌, ◌^◌, ◌⊎◌, ◌↔◌, IfOk, Err};
+ghost use Rattle.lattice.specs.Places.{sites_of as sites_of_place};
+ghost use Rattle.lattice.specs.declared.grid.SizeFault.TheVariants.{NoSites, TooManySites};
+
+use std::marker::Model;
+use surf_kinds::{Place, SiteId, Sites};
+
+/// What the neighbours of a site are: four on the square lattice, six on the hexagonal one.
+#[derive(Clone, Copy, Debug, PartialEq, Eq)]
+pub enum Kind {
+    Square,
+    Hex,
+}
+
+/// Why there is no lattice of a size.
+#[derive(Clone, Copy, Debug, PartialEq, Eq)]
+pub enum SizeFault {
+    NoSites,
+    TooManySites,
+}
+
+const MOST_SITES: u64 = 1_048_576;
+
+/// A lattice of 1 to 2^20 sites.
+///
+/// Sites are numbered row by row. On the hexagonal lattice the neighbours of a site stand to its east, west,
+/// south, north, south-west and north-east. With wrapping, a step past an edge goes to the other edge, in each
+/// dimension that has at least 3 sites.
+#[derive(Clone, Copy, Debug, PartialEq, Eq)]
+pub struct Lattice {
+    kind: Kind,
+    rows: u32,
+    cols: u32,
+    wrap: bool,
+}
+
+impl Model for Lattice {
+    ghost use Rattle.lattice.specs.Shape.{Shape, IsSize};
+
+    ghost Value = { Shape };
+
+    ghost view = { λ l. record { kind = l.kind; rows = l.rows; cols = l.cols; wrap = l.wrap } };
+
+    ghost invariant = { λ l. IsSize l.rows l.cols };
+
+    ghost inverse = { λ s. record { kind = s.kind; rows = s.rows; cols = s.cols; wrap = s.wrap } };
+}
+
+impl Lattice {
+    /// A lattice of this kind and size.
+    pub fn new(kind: Kind, rows: u32, cols: u32, wrap: bool) -> Result<Lattice, SizeFault>
+        ensures ok { IfOk result (λ l. l ≡ record { kind = kind; rows = rows; cols = cols; wrap = wrap }) }
+        ensures no_sites { (result ≡ Err NoSites) ↔ ((rows ≡ 0) ⊎ (cols ≡ 0)) }
+        ensures too_many { (result ≡ Err TooManySites) ↔ (2 ^ 20 < rows * cols) }
+    {
+        if rows == 0 || cols == 0 {
+            return Err(SizeFault::NoSites);
+        }
+        if u64::from(rows) * u64::from(cols) > MOST_SITES {
+            return Err(SizeFault::TooManySites);
+        }
+        Ok(Lattice {
+            kind,
+            rows,
+            cols,
+            wrap,
+        })
+    }
+
+    pub fn kind(&self) -> Kind
+        ensures { result ≡ self.now.kind }
+    {
+        self.kind
+    }
+
+    /// Whether it wraps around its edges.
+    pub fn wrap(&self) -> bool
+        ensures { result ≡ self.now.wrap }
+    {
+        self.wrap
+    }
+
+    pub fn rows(&self) -> u32
+        ensures rows { result ≡ self.now.rows }
+        ensures at_least { 1 ≤ result }
+        ensures sites { self.now.rows * self.now.cols ≤ 2 ^ 20 }
+    {
+        self.rows
+    }
+
+    pub fn cols(&self) -> u32
+        ensures cols { result ≡ self.now.cols }
+        ensures at_least { 1 ≤ result }
+        ensures sites { self.now.rows * self.now.cols ≤ 2 ^ 20 }
+    {
+        self.cols
+    }
+
+    /// The number of sites.
+    pub fn site_count(&self) -> u32
+        ensures count { result ≡ self.now.rows * self.now.cols }
+        ensures at_least { 1 ≤ result }
+        ensures at_most { result ≤ 2 ^ 20 }
+    {
+        self.rows * self.cols
+    }
+}
