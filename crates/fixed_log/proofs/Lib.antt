@@ -1,0 +1,4 @@
+pub mod Squarings
+pub mod Bounds
+pub mod Laws
+mod Vectors

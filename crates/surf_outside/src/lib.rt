@@ -1,0 +1,30 @@
+//! Where the bytes of a run come from and go to, and a gate between its workers.
+//!
+//! A source gives bytes and a sink takes them. Each keeps a count of its faults, and a call answers a fault
+//! only where that count rose in the call; so whoever sees a fault knows that the outside had one. `slurp`
+//! reads a source to its end, and `put_all` writes a whole text. There are objects over memory, which fail
+//! at the calls that they were told, and adapters for the readers and writers of std, which are the trusted
+//! edge of the programs.
+//!
+//! The crate promises which bytes each call takes and adds, when it fails, and what stands after a failure.
+//! It stands on std, and on `surf_kinds` for the name of want of memory.
+#![tactic(auto)]
+
+mod memory;
+mod reading;
+mod streams;
+mod turns;
+mod writing;
+
+pub use memory::{MemSink, MemSource};
+pub use reading::{SlurpError, Source, slurp};
+pub use streams::{StdSink, StdSource};
+pub use turns::{Gate, OpenGate};
+pub use writing::{Sink, put_all};
+
+/// A call of the outside failed.
+#[derive(Clone, Copy, Debug, PartialEq, Eq)]
+pub struct Failed;
+
+#[cfg(test)]
+mod tests;

@@ -1,0 +1,99 @@
+//! Sources, and reading one to its end.
+ghost use Rattle.std.specs.Prelude.{◌≡◌, ℕ, List, Option, ◌+◌, ◌<◌, ◌≤◌, ◌↔◌, ◌++◌, length, max, vec_capacity, IfOk, OnOk, OnErr, IfSome, IsErrOf};
+ghost use Rattle.std.specs.Io.KnownBytes.{ReadConsumes, IsAtEnd};
+ghost use Rattle.std.specs.Io.{ReadsAtMost};
+ghost use Rattle.surf_outside.specs.Causes.{HasCause, Rose};
+ghost use Rattle.surf_outside.specs.Known.{ConsumesSome};
+
+use crate::Failed;
+use std::alloc::{AllocError, Global};
+
+/// How many bytes `slurp` asks for at a time.
+const PIECE: usize = 65_536;
+
+/// Where bytes come from.
+pub trait Source {
+    /// The bytes that are left, where it tells them.
+    ghost left: { Self → Option (List ℕ) };
+
+    /// How many faults it has had; a count that never falls.
+    ghost faults: { Self → ℕ };
+
+    /// Takes the first bytes that are left, puts them at the start of the buffer and says how many. None, into
+    /// a buffer that has room, means that nothing is left. After a fault the bytes left are unchanged.
+    fn read(&mut self, buf: &mut [u8]) -> Result<usize, Failed>
+        ensures bound { ReadsAtMost result buf.new }
+        ensures bytes { ReadConsumes (left self.old) (left self.new) result buf.new }
+        ensures cause { HasCause (faults self.old) (faults self.new) result };
+}
+
+/// Why `slurp` stopped before the end.
+#[derive(Clone, Copy, Debug, PartialEq, Eq)]
+pub enum SlurpError {
+    /// The source had a fault.
+    Read,
+    /// The source gave more bytes than it may.
+    TooLong,
+    /// Memory ran out.
+    Memory,
+}
+
+/// All the bytes that are left, at most `most`. After an error a prefix of them was taken.
+///
+/// While it grows, the list takes memory for about twice the bytes that were read, and at the end for at most
+/// `most` bytes.
+pub fn slurp<S: Source>(alloc: Global, source: &mut S, most: usize) -> Result<Vec<u8>, SlurpError>
+    ensures ok { IfOk result (λ all. IfSome (S.left source.old) (λ bytes. all.items ≡ bytes)) }
+    ensures end { OnOk result (IsAtEnd (S.left source.new)) }
+    ensures within { IfOk result (λ all. length all.items ≤ most) }
+    ensures some { ConsumesSome (S.left source.old) (S.left source.new) }
+
+    ensures later { S.faults source.old ≤ S.faults source.new }
+    ensures read { IsErrOf result SlurpError.Read → Rose (S.faults source.old) (S.faults source.new) }
+
+    // Where the bytes are told: exactly where more than `most` of them were taken.
+    ensures too_long { IfSome (S.left source.old) (λ bytes. IfSome (S.left source.new) (λ rest.
+        IsErrOf result SlurpError.TooLong ↔ (most + length rest < length bytes))) }
+{
+    let mut all: Vec<u8> = Vec::new(alloc);
+    let mut piece = [0; PIECE];
+    loop {
+        let n = match source.read(&mut piece) {
+            Ok(n) => n,
+            Err(_) => return Err(SlurpError::Read),
+        };
+        if n == 0 {
+            return Ok(all);
+        }
+        if n > most - all.len() {
+            return Err(SlurpError::TooLong);
+        }
+        if append(&mut all, &piece[..n], most).is_err() {
+            return Err(SlurpError::Memory);
+        }
+    }
+}
+
+/// Puts a piece behind the bytes of a list that may grow to `most` bytes. After an error the bytes are unchanged.
+fn append(all: &mut Vec<u8>, piece: &[u8], most: usize) -> Result<(), AllocError>
+    requires { length all.old.items + length piece.now ≤ most }
+    ensures ok { OnOk result (all.new.items ≡ all.old.items ++ piece.now) }
+    ensures err { OnErr result (all.new.items ≡ all.old.items) }
+{
+    make_room(all, all.len() + piece.len(), most)?;
+    all.extend_from_slice(piece)
+}
+
+/// Makes room for `wanted` bytes in all. Where the list has to move, its room doubles, but never past `most`.
+fn make_room(all: &mut Vec<u8>, wanted: usize, most: usize) -> Result<(), AllocError>
+    requires { wanted ≤ most }
+    ensures items { all.new.items ≡ all.old.items }
+    ensures room { OnOk result (wanted ≤ vec_capacity all.new) }
+    ensures bounded { vec_capacity all.new ≤ max (vec_capacity all.old) most }
+{
+    if wanted <= all.capacity() {
+        return Ok(());
+    }
+    let doubled = all.capacity().saturating_mul(2).min(most);
+    all.reserve_exact(doubled.max(wanted) - all.len())
+}

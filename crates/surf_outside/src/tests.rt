@@ -1,0 +1,96 @@
+use super::*;
+use std::test::Fail;
+
+/// Reads once and gives what came.
+fn read_once<'a, S: Source>(source: &mut S, buf: &'a mut [u8]) -> Result<&'a [u8], Failed> {
+    let n = source.read(buf)?;
+    Ok(&buf[..n])
+}
+
+#[test]
+fn a_source_over_memory_fails_once_and_goes_on(rt: HostRuntime) -> Result<(), Fail> {
+    let mut source = MemSource::new(rt.alloc(), b"abcdefghij", 4, &[2])?;
+    let mut buf = [0; 6];
+    assert_eq!(rt; read_once(&mut source, &mut buf)?, b"abcd".as_slice());
+    assert_eq!(rt; source.read(&mut buf), Err(Failed));
+    assert_eq!(rt; source.faults(), 1);
+    assert_eq!(rt; read_once(&mut source, &mut buf)?, b"efgh".as_slice());
+    assert_eq!(rt; read_once(&mut source, &mut buf)?, b"ij".as_slice());
+    assert_eq!(rt; source.read(&mut buf)?, 0);
+    assert_eq!(rt; source.faults(), 1);
+    Ok(())
+}
+
+#[test]
+fn a_sink_over_memory_fails_once_and_where_it_is_full(rt: HostRuntime) -> Result<(), Fail> {
+    let mut sink = MemSink::new(rt.alloc(), 5, 3, &[2])?;
+    assert_eq!(rt; sink.write(b"abcd")?, 3);
+    assert_eq!(rt; sink.write(b"efg"), Err(Failed));
+    assert_eq!(rt; sink.write(b"efg")?, 2);
+    assert_eq!(rt; sink.write(b"")?, 0);
+    assert_eq!(rt; sink.faults(), 1);
+    assert_eq!(rt; sink.write(b"h"), Err(Failed));
+    assert_eq!(rt; sink.faults(), 2);
+    assert_eq!(rt; sink.bytes(), b"abcef".as_slice());
+    Ok(())
+}
+
+#[test]
+fn a_source_is_read_to_its_end(rt: HostRuntime) -> Result<(), Fail> {
+    let text = b"a text that is longer than seven bytes";
+    let mut source = MemSource::new(rt.alloc(), text, 7, &[])?;
+    let bytes = slurp(rt.alloc(), &mut source, text.len())?;
+    assert_eq!(rt; bytes.as_slice(), text.as_slice());
+    Ok(())
+}
+
+#[test]
+fn a_source_with_a_byte_too_many_is_refused(rt: HostRuntime) -> Result<(), Fail> {
+    let mut source = MemSource::new(rt.alloc(), b"eight by", 3, &[])?;
+    assert_eq!(rt; slurp(rt.alloc(), &mut source, 7), Err(SlurpError::TooLong));
+    Ok(())
+}
+
+#[test]
+fn a_fault_of_reading_is_handed_on(rt: HostRuntime) -> Result<(), Fail> {
+    let mut source = MemSource::new(rt.alloc(), b"eight by", 3, &[3])?;
+    assert_eq!(rt; slurp(rt.alloc(), &mut source, 100), Err(SlurpError::Read));
+    assert_eq!(rt; source.faults(), 1);
+    Ok(())
+}
+
+#[test]
+fn a_fault_of_writing_leaves_a_prefix(rt: HostRuntime) -> Result<(), Fail> {
+    let mut sink = MemSink::new(rt.alloc(), 100, 7, &[3])?;
+    assert_eq!(rt;
+        put_all(&mut sink, b"a text of thirty bytes or more"),
+        Err(Failed)
+    );
+    assert_eq!(rt; sink.bytes(), b"a text of thir".as_slice());
+    assert_eq!(rt; sink.faults(), 1);
+    Ok(())
+}
+
+#[test]
+fn a_reader_of_std_is_a_source(rt: HostRuntime) -> Result<(), Fail> {
+    let mut source = StdSource::new(b"abc".as_slice());
+    let bytes = slurp(rt.alloc(), &mut source, 3)?;
+    assert_eq!(rt; bytes.as_slice(), b"abc".as_slice());
+    Ok(())
+}
+
+#[test]
+fn a_writer_of_std_is_a_sink(rt: HostRuntime) -> Result<(), Fail> {
+    let mut held = Vec::new(rt.alloc());
+    let mut sink = StdSink::new(&mut held);
+    put_all(&mut sink, b"abc")?;
+    drop(sink);
+    assert_eq!(rt; held.as_slice(), b"abc".as_slice());
+    Ok(())
+}
+
+#[test]
+fn an_open_gate_lets_all_through() {
+    OpenGate.enter(0, 0);
+    OpenGate.leave(0, 0);
+}

@@ -1,0 +1,39 @@
+//! Sinks, and writing a whole text.
+ghost use Rattle.std.specs.Prelude.{ℕ, List, Option, ◌<◌, length, OnOk, OnErr, IfOk};
+ghost use Rattle.std.specs.Io.KnownBytes.{WriteAppends, Appends};
+ghost use Rattle.std.specs.Io.{WritesAtMost};
+ghost use Rattle.surf_outside.specs.Causes.{HasCause};
+ghost use Rattle.surf_outside.specs.Known.{AppendsPrefix};
+
+use crate::Failed;
+
+/// Where bytes go.
+pub trait Sink {
+    /// The bytes that it holds, where it tells them.
+    ghost held: { Self → Option (List ℕ) };
+
+    /// How many faults it has had; a count that never falls.
+    ghost faults: { Self → ℕ };
+
+    /// Writes the first bytes of a piece and says how many: at least one, where the piece has any.
+    /// After a fault the bytes held are unchanged.
+    fn write(&mut self, bytes: &[u8]) -> Result<usize, Failed>
+        ensures bound { WritesAtMost result bytes.now }
+        ensures progress { IfOk result (λ n. 0 < length bytes.now → 0 < n) }
+        ensures bytes { WriteAppends (held self.old) (held self.new) result bytes.now }
+        ensures cause { HasCause (faults self.old) (faults self.new) result };
+}
+
+/// Writes all of the bytes. After a fault of the sink a prefix of them was written.
+pub fn put_all<O: Sink>(out: &mut O, bytes: &[u8]) -> Result<(), Failed>
+    ensures ok { OnOk result (Appends (O.held out.old) (O.held out.new) bytes.now) }
+    ensures err { OnErr result (AppendsPrefix (O.held out.old) (O.held out.new) bytes.now) }
+    ensures cause { HasCause (O.faults out.old) (O.faults out.new) result }
+{
+    let mut at = 0;
+    while at < bytes.len() {
+        let n = out.write(&bytes[at..])?;
+        at += n;
+    }
+    Ok(())
+}
