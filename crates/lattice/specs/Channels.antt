@@ -1,5 +1,5 @@
 -- The channels of a place: the rules whose reactants stand at its sites, with the way in which they stand.
-use Rattle.std.specs.Prelude.{ℕ, Option, Some, None, Bool, true, false, not, ◌==◌, ◌&&◌, nat_lt, if◌then◌else◌}
+use Rattle.std.specs.Prelude.{ℕ, Option, Some, None, Bool, false, not, ◌==◌, ◌&&◌, nat_lt, if◌then◌else◌}
 use Rattle.surf_kinds.specs.Rates.{Fraction}
 use Rattle.surf_kinds.specs.declared.rule.Rule.{Rule}
 use Rattle.surf_kinds.specs.declared.rule.Rule.TheVariants.{One, Two}

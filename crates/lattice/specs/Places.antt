@@ -2,7 +2,7 @@
 --
 -- Site s stands in row s / columns and in column s % columns. Place 8 * s is site s alone. Places 8 * s + 1,
 -- 8 * s + 2 and, on the hexagonal lattice, 8 * s + 3 are its pairs with the east, the south and the south-west.
-use Rattle.std.specs.Prelude.{◌≡◌, ℕ, ◌+◌, ◌-◌, ◌*◌, ◌/◌, ◌%◌, List, map, Option, Some, None, Bool, true, false, ◌==◌, ◌&&◌, ◌⊎◌, ◌↔◌, nat_le, nat_lt, if◌then◌else◌, Contains}
+use Rattle.std.specs.Prelude.{◌≡◌, ℕ, ◌+◌, ◌-◌, ◌*◌, ◌/◌, ◌%◌, List, map, Option, Some, None, Bool, true, false, ◌==◌, ◌&&◌, ◌⊎◌, ◌↔◌, nat_le, nat_lt, if◌then◌else◌, Contains, IsSome}
 use Rattle.std.specs.List.Sorted.{IsStrictlyIncreasing}
 use Rattle.surf_kinds.specs.declared.site.SiteId.{SiteId}
 use Rattle.surf_kinds.specs.declared.site.Sites.{Sites}
@@ -41,6 +41,14 @@ neighbour l s d =
     else (if d == 3 && is_hex l.kind then site_at l.cols (forward l.wrap l.rows (s / l.cols)) (back l.wrap l.cols (s % l.cols))
     else None))
 
+-- the site whose step leads here
+abbrev pub behind : Shape → ℕ → ℕ → Option SiteId
+behind l s d =
+    if d == 1 then site_at l.cols (Some (s / l.cols)) (back l.wrap l.cols (s % l.cols))
+    else (if d == 2 then site_at l.cols (back l.wrap l.rows (s / l.cols)) (Some (s % l.cols))
+    else (if d == 3 && is_hex l.kind then site_at l.cols (back l.wrap l.rows (s / l.cols)) (forward l.wrap l.cols (s % l.cols))
+    else None))
+
 abbrev pub paired : ℕ → Option SiteId → Option Sites
 paired s None = None
 paired s (Some n) = Some (record { first = record { 0 = s }; second = Some n })
@@ -51,6 +59,10 @@ sites_at l s d = if d == 0 then Some (record { first = record { 0 = s }; second 
 -- the sites of a place, where the number is one
 unfoldable pub sites_of : Shape → ℕ → Option Sites
 sites_of l place = if nat_lt (place / 8) (l.rows * l.cols) then sites_at l (place / 8) (place % 8) else None
+
+-- the number is a place
+abbrev pub IsPlace : Shape → ℕ → Type 0
+IsPlace l place = IsSome (sites_of l place)
 
 -- the site is one of these
 abbrev pub IsAmong : ℕ → Sites → Type 0

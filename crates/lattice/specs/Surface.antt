@@ -1,5 +1,5 @@
 -- What an event makes of a surface, which is a list of the states of its sites.
-use Rattle.std.specs.Prelude.{ℕ, ◌+◌, ◌/◌, ◌%◌, List, [], ◌∷◌, Option, Some, None, ◌==◌, if◌then◌else◌, slice_get, slice_set, map}
+use Rattle.std.specs.Prelude.{ℕ, ◌+◌, ◌/◌, ◌%◌, List, [], ◌∷◌, Option, Some, None, ◌==◌, if◌then◌else◌, slice_get, slice_set, map, length, ◌<◌, ◌^◌, IfSome}
 use Rattle.surf_kinds.specs.declared.rule.Rule.{Rule}
 use Rattle.surf_kinds.specs.declared.rule.Rule.TheVariants.{One, Two}
 use Rattle.surf_kinds.specs.declared.site.SiteState.{SiteState}
@@ -8,7 +8,7 @@ use Rattle.surf_kinds.specs.declared.site.SiteId.{SiteId}
 use Rattle.surf_kinds.specs.declared.site.Sites.{Sites}
 use Rattle.surf_kinds.specs.declared.event.Event.{Event}
 use Rattle.lattice.specs.Shape.{Shape}
-use Rattle.lattice.specs.Places.{sites_of}
+use Rattle.lattice.specs.Places.{sites_of, HasSite}
 
 -- a site that was never rewritten
 abbrev pub fresh : SpeciesId → SiteState
@@ -56,3 +56,11 @@ after l rules sites e = rewrite_all rules e (sites_of l e.place.0) sites
 abbrev pub after_all : Shape → List Rule → List SiteState → List Event → List SiteState
 after_all l rules sites [] = sites
 after_all l rules sites (e ∷ es) = after_all l rules (after l rules sites e) es
+
+-- the channel is one of a rule
+abbrev pub IsChannelOf : List Rule → ℕ → Type 0
+IsChannelOf rules channel = channel / 2 < length rules
+
+-- each site of the place was rewritten less than 2 ^ 53 times
+abbrev pub HasRoom : Shape → List SiteState → ℕ → Type 0
+HasRoom l sites place = (s : ℕ) → HasSite l place s → IfSome (slice_get sites s) (λ x. x.version < 2 ^ 53)

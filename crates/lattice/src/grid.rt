@@ -1,7 +1,7 @@
 //! The lattice and its sites.
 
-ghost use Rattle.std.specs.Prelude.{◌≡◌, ◌≤◌, ◌<◌, ◌*◌, ◌^◌, ◌⊎◌, ◌↔◌, IfOk, Err};
-ghost use Rattle.lattice.specs.Places.{sites_of as sites_of_place};
+ghost use Rattle.std.specs.Prelude.{◌≡◌, ◌≤◌, ◌<◌, ◌*◌, ◌%◌, ◌^◌, ◌⊎◌, ◌↔◌, IfOk, Err};
+ghost use Rattle.lattice.specs.Places.{behind, neighbour, wraps as wraps_at, sites_of as sites_of_place};
 ghost use Rattle.lattice.specs.declared.grid.SizeFault.TheVariants.{NoSites, TooManySites};
 
 use std::marker::Model;
@@ -105,5 +105,95 @@ impl Lattice {
         ensures at_most { result ≤ 2 ^ 20 }
     {
         self.rows * self.cols
+    }
+    /// The sites of a place, or `None` where the number is no place.
+    #[tactic(auto, unfolding(crate::specs::Places::sites_of))]
+    pub fn sites_of(&self, place: Place) -> Option<Sites>
+        ensures { result ≡ sites_of_place self.now place.0 }
+    {
+        if place.0 / 8 >= u64::from(self.site_count()) {
+            return None;
+        }
+        let site = (place.0 / 8) as u32;
+        let first = SiteId(site);
+        let second = match place.0 % 8 {
+            0 => return Some(Sites {
+                first,
+                second: None,
+            }),
+            1 => self.east(site, site % self.cols),
+            2 => self.south(site),
+            3 => self.south_west(site, site % self.cols),
+            _ => None,
+        };
+        match second {
+            None => None,
+            Some(_) => Some(Sites { first, second }),
+        }
+    }
+
+    /// Whether a step past an edge comes in at the other one, in a dimension of this size.
+    fn wraps(&self, size: u32) -> bool
+        ensures { result ≡ wraps_at self.now.wrap size }
+    {
+        self.wrap && size >= 3
+    }
+
+    fn east(&self, site: u32, col: u32) -> Option<SiteId>
+        requires site { site < self.now.rows * self.now.cols }
+        requires col { col ≡ site % self.now.cols }
+        ensures { result ≡ neighbour self.now site 1 }
+    {
+        let last = self.cols - 1;
+        if col < last {
+            Some(SiteId(site + 1))
+        } else if self.wraps(self.cols) {
+            Some(SiteId(site - col))
+        } else {
+            None
+        }
+    }
+
+    // A row is `cols` sites, so this needs no division.
+    fn south(&self, site: u32) -> Option<SiteId>
+        requires site { site < self.now.rows * self.now.cols }
+        ensures { result ≡ neighbour self.now site 2 }
+    {
+        let all = self.site_count();
+        if site + self.cols < all {
+            Some(SiteId(site + self.cols))
+        } else if self.wraps(self.rows) {
+            Some(SiteId(site + self.cols - all))
+        } else {
+            None
+        }
+    }
+
+    fn west(&self, site: u32, col: u32) -> Option<SiteId>
+        requires site { site < self.now.rows * self.now.cols }
+        requires col { col ≡ site % self.now.cols }
+        ensures { result ≡ behind self.now site 1 }
+    {
+        if col > 0 {
+            Some(SiteId(site - 1))
+        } else if self.wraps(self.cols) {
+            Some(SiteId(site + self.cols - 1))
+        } else {
+            None
+        }
+    }
+
+    fn south_west(&self, site: u32, col: u32) -> Option<SiteId>
+        requires site { site < self.now.rows * self.now.cols }
+        requires col { col ≡ site % self.now.cols }
+        ensures { result ≡ neighbour self.now site 3 }
+    {
+        match self.kind {
+            Kind::Square => None,
+            Kind::Hex => match self.west(site, col) {
+                None => None,
+                Some(west) => self.south(west.0),
+            },
+        }
     }
 }

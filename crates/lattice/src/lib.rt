@@ -6,5 +6,6 @@
 #![tactic(auto)]
 
 mod grid;
+pub mod plain;
 
 pub use grid::{Kind, Lattice, SizeFault};

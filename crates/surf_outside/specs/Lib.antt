@@ -1,4 +1,6 @@
 pub mod Causes
 pub mod Known
-pub mod Memory
-pub mod Streams
+pub mod MemSource
+pub mod MemSink
+pub mod StdSource
+pub mod StdSink

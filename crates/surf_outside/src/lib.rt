@@ -10,15 +10,19 @@
 //! It stands on std, and on `surf_kinds` for the name of want of memory.
 #![tactic(auto)]
 
-mod memory;
+mod mem_sink;
+mod mem_source;
 mod reading;
-mod streams;
+mod std_sink;
+mod std_source;
 mod turns;
 mod writing;
 
-pub use memory::{MemSink, MemSource};
+pub use mem_sink::MemSink;
+pub use mem_source::MemSource;
 pub use reading::{SlurpError, Source, slurp};
-pub use streams::{StdSink, StdSource};
+pub use std_sink::StdSink;
+pub use std_source::StdSource;
 pub use turns::{Gate, OpenGate};
 pub use writing::{Sink, put_all};
 

@@ -1,0 +1,90 @@
+//! The draws of the simulation: numbers that a seed, a place, an occurrence and a channel decide.
+//!
+//! A draw has no memory of the draws before it. It is made of two words of the cipher ChaCha8, at a place of the
+//! key stream that its arguments name: so whoever makes it, in whatever order, gets the same number. The crate
+//! promises just that, word for word.
+//!
+//! It stands on `rand_chacha` for the words, and on `surf_kinds` for the places.
+#![tactic(auto)]
+
+ghost use Rattle.std.specs.Prelude.{◌≡◌, ◌<◌, ◌+◌, ◌*◌, ◌^◌};
+ghost use Rattle.draws.specs.Draw.{draw_of, key_bytes};
+
+use rand_chacha::ChaCha8Rng;
+use rand_core::SeedableRng;
+use rand_core::utils::{NextWord, next_u64_via_u32};
+use std::marker::Model;
+use surf_kinds::Place;
+
+/// What makes the draws of one seed.
+#[derive(Debug, Drop)]
+pub struct Drawer {
+    seed: u64,
+    // the cipher's key, ready for each draw
+    key: [u8; 32],
+}
+
+impl Model for Drawer {
+    ghost use Rattle.std.specs.Prelude.{ℕ, ◌≡◌};
+    ghost use Rattle.draws.specs.Draw.{key_bytes};
+
+    ghost Value = { ℕ };
+
+    ghost view = { λ d. d.seed };
+
+    ghost invariant = { λ d. d.key ≡ key_bytes d.seed };
+}
+
+impl Drawer {
+    /// The draws of this seed.
+    pub fn new(seed: u64) -> Drawer
+        ensures { result ≡ seed }
+    {
+        Drawer {
+            seed,
+            key: key_of_seed(seed),
+        }
+    }
+
+    /// The draw of a place, an occurrence and a channel: the word at its place of the key stream, and the word
+    /// after it as the high half. The occurrence is below 2^54, and the channel below 8192.
+    #[inline]
+    #[tactic(auto, unfolding(crate::specs::Draw::draw_of, crate::specs::Draw::word_of))]
+    pub fn draw(&self, place: Place, occurrence: u64, channel: u16) -> u64
+        requires occurrence_fits { occurrence < 2 ^ 54 }
+        requires channel_fits { channel < 8192 }
+        ensures { result ≡ draw_of self.now place.0 occurrence channel }
+    {
+        // The cipher makes its words by blocks of 16, and has least to do where it begins at a block's first.
+        let skipped = channel % 8;
+        let mut rng = ChaCha8Rng::from_seed(self.key);
+        rng.set_stream(place.0);
+        rng.set_word_pos(u128::from(occurrence) * 16384 + 2 * u128::from(channel - skipped));
+        skip_pairs(&mut rng, skipped);
+        next_u64_via_u32(&mut rng)
+    }
+}
+
+// The seed's eight bytes, least byte first, and 24 zero bytes.
+fn key_of_seed(seed: u64) -> [u8; 32]
+    ensures { result ≡ key_bytes seed }
+{
+    let mut key = [0; 32];
+    key[0..8].copy_from_slice(&seed.to_le_bytes());
+    key
+}
+
+// Passes over so many pairs of words.
+#[inline]
+fn skip_pairs(rng: &mut ChaCha8Rng, pairs: u16)
+    requires { rng.old.word_pos + 2 * pairs < 2 ^ 68 }
+    ensures { rng.new ≡ record rng.old { word_pos = rng.old.word_pos + 2 * pairs } }
+{
+    for _ in 0..pairs {
+        let _low = rng.next_word();
+        let _high = rng.next_word();
+    }
+}
+
+#[cfg(test)]
+mod tests;

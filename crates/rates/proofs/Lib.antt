@@ -1,0 +1,5 @@
+pub mod Laws
+pub mod Fractions
+mod Vectors
+pub mod Divisors
+pub mod Lowest
