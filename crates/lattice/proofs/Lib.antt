@@ -1,3 +1,13 @@
 pub mod Steps
 pub mod Sites
 pub mod Writes
+pub mod Insertion
+pub mod Slots
+pub mod Moves
+pub mod Chain
+pub mod Around
+pub mod Laws
+pub mod AfterSite
+pub mod Rank
+pub mod Seven
+pub mod Pinned

@@ -1,5 +1,5 @@
 -- The sites of a place.
-use Rattle.std.proofs.Common.{◌≡◌, ℕ, ◌*◌, ◌/◌, ◌%◌, ◌<◌, Option, Some, None, Bool, true, false, ◌==◌, ◌&&◌, inl, inr, refl, sym, ap, ◌∙◌, arith, if◌then◌else◌}
+use Rattle.std.proofs.Common.{◌≡◌, ℕ, ◌*◌, ◌/◌, ◌%◌, ◌<◌, ◌↔◌, Option, Some, None, Bool, true, false, ◌==◌, ◌&&◌, inl, inr, refl, sym, ap, ◌∙◌, arith, if◌then◌else◌}
 use Rattle.std.specs.Prelude.{nat_lt}
 use Rattle.std.proofs.lemmas.Option.{none-some, same_Some}
 use Rattle.std.proofs.lemmas.Bool.Decides.{nat_tests, eqb_tells}
@@ -32,6 +32,9 @@ behind_forth l s d n h e =
     (undo l.rows l.cols (back l.wrap l.rows) (forward l.wrap l.rows) (λ i. Some i) (λ i. Some i) (back_forward l.wrap l.rows) (stay l.cols) s n h)
     (undo l.rows l.cols (back l.wrap l.rows) (forward l.wrap l.rows) (forward l.wrap l.cols) (back l.wrap l.cols) (back_forward l.wrap l.rows) (forward_back l.wrap l.cols) s n h)
     e
+
+pub neighbour_behind : (l : Shape) (d : ℕ) (s n : SiteId) → s.0 < l.rows * l.cols → n.0 < l.rows * l.cols → (neighbour l n.0 d ≡ Some s) ↔ (behind l s.0 d ≡ Some n)
+neighbour_behind l d s n h i = (λ e. (neighbour_back l n.0 d s i e).1, λ e. (behind_forth l s.0 d n h e).1)
 
 -- a place is a site, or a site with the neighbour that a step leads to
 pub record Described (l : Shape) (place : ℕ) (p : Sites) : Type 0 where

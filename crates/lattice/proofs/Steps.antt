@@ -1,6 +1,7 @@
 -- Steps from a site to its neighbours, by rows and columns.
 use Rattle.std.proofs.Common.{◌≡◌, ℕ, ◌+◌, ◌-◌, ◌*◌, ◌/◌, ◌%◌, ◌<◌, ◌≤◌, Option, Some, None, Bool, true, false, refl, sym, ap, ◌∙◌, subst, arith, if◌then◌else◌}
 use Rattle.std.specs.Prelude.{nat_lt}
+use Rattle.std.proofs.Math.Nat.{div-eq_of_lt, mod-eq_of_lt}
 use Rattle.std.proofs.lemmas.Grind.{common_steps}
 use Rattle.std.proofs.lemmas.Nat.{rows, div-add-mod', div-mul-add, mod-mul-add}
 use Rattle.std.proofs.lemmas.Option.{none-some, same_Some}
@@ -110,4 +111,39 @@ south_of_west l s n h e =
       ap (λ k. site_at l.cols (forward l.wrap l.rows k) (Some (n.0 % l.cols))) (ap (λ k. k / l.cols) to.is ∙ div-mul-add to.r l.cols to.c col ∙ sym row)
           ∙ ap (λ k. site_at l.cols (forward l.wrap l.rows (s / l.cols)) (Some k)) (ap (λ k. k % l.cols) to.is ∙ mod-mul-add to.r l.cols to.c col)
           ∙ ap (λ o. site_at l.cols (forward l.wrap l.rows (s / l.cols)) o) (sym to.col_is),
+    )
+
+last_is : (rows cols s : ℕ) → s < cols → 0 < rows → (rows - 1) * cols + s % cols ≡ s + rows * cols - cols
+last_is m cols s h p =
+    let one : m ≡ m - 1 + 1 = omega arith in
+    let all : m * cols ≡ (m - 1 + 1) * cols = ap (λ k. k * cols) one in
+    let col : s % cols ≡ s = mod-eq_of_lt h in
+    omega (arith, all, col)
+
+pub north_past : (l : Shape) (s : ℕ) → s < l.rows * l.cols → s < l.cols → behind l s 2 ≡ (if wraps l.wrap l.rows then Some (record { 0 = s + l.rows * l.cols - l.cols }) else None)
+north_past l s h first =
+    let at = stands_at l.rows l.cols s h in
+    let row : s / l.cols ≡ 0 = div-eq_of_lt first in
+    let none : nat_lt 0 (s / l.cols) ≡ false = grind (arith, nat_tests) in
+    let rest : (l.rows - 1) * l.cols + s % l.cols ≡ s + l.rows * l.cols - l.cols = last_is l.rows l.cols s first (omega (arith, at.row)) in
+    ap (λ b. site_at l.cols (if b then Some (s / l.cols - 1) else (if wraps l.wrap l.rows then Some (l.rows - 1) else None)) (Some (s % l.cols))) none
+    ∙ elim (wraps l.wrap l.rows) as (λ b. site_at l.cols (if b then Some (l.rows - 1) else None) (Some (s % l.cols)) ≡ (if b then Some (record { 0 = s + l.rows * l.cols - l.cols }) else None)) [
+      | true ↦ ap (λ k. Some (record { 0 = k })) rest
+      | false ↦ refl
+    ]
+
+-- the site to the east of the site to the north
+pub east_of_north : (l : Shape) (s : ℕ) (n : SiteId) → s < l.rows * l.cols → behind l s 2 ≡ Some n → (n.0 < l.rows * l.cols) × (s % l.cols ≡ n.0 % l.cols) × (neighbour l n.0 1 ≡ site_at l.cols (back l.wrap l.rows (s / l.cols)) (forward l.wrap l.cols (s % l.cols)))
+east_of_north l s n h e =
+    let at = stands_at l.rows l.cols s h in
+    let to = leads l.cols (back l.wrap l.rows (s / l.cols)) (Some (s % l.cols)) n e in
+    let row : to.r < l.rows = (back_forward l.wrap l.rows).below (s / l.cols) to.r at.row to.row_is in
+    let col : s % l.cols ≡ to.c = same_Some _ _ to.col_is in
+    let col_below : to.c < l.cols = omega (arith, at.col, col) in
+    let same : s % l.cols ≡ n.0 % l.cols = col ∙ sym (ap (λ k. k % l.cols) to.is ∙ mod-mul-add to.r l.cols to.c col_below) in (
+      rw to.is (placed l.rows l.cols to.r to.c row col_below),
+      same,
+      ap (λ k. site_at l.cols (Some k) (forward l.wrap l.cols (n.0 % l.cols))) (ap (λ k. k / l.cols) to.is ∙ div-mul-add to.r l.cols to.c col_below)
+          ∙ ap (λ o. site_at l.cols o (forward l.wrap l.cols (n.0 % l.cols))) (sym to.row_is)
+          ∙ ap (λ k. site_at l.cols (back l.wrap l.rows (s / l.cols)) (forward l.wrap l.cols k)) (sym same),
     )

@@ -1,7 +1,7 @@
 -- What a rewriting leaves at each site.
 use Rattle.std.proofs.Common.{◌≡◌, ◌≢◌, ℕ, zero, suc, ◌-◌, ◌/◌, ◌%◌, ◌<◌, ◌^◌, List, [], ◌∷◌, length, Option, Some, None, inl, inr, refl, sym, ap, ◌∙◌, subst, arith, set, get_or}
-use Rattle.std.specs.Prelude.{slice_get, IfSome}
-use Rattle.std.proofs.lemmas.Option.{slice_get_within, slice_get-get_or}
+use Rattle.std.specs.Prelude.{slice_get, IfSome, All}
+use Rattle.std.proofs.lemmas.Option.{slice_get_within, slice_get-get_or, get_or_from_slice_get}
 use Rattle.std.proofs.lemmas.Bool.Decides.{eqb_tells}
 use Rattle.surf_kinds.specs.declared.site.SiteState.{SiteState}
 use Rattle.surf_kinds.specs.declared.site.SpeciesId.{SpeciesId}
@@ -11,7 +11,7 @@ use Rattle.surf_kinds.specs.declared.site.Sites.{Sites}
 use Rattle.surf_kinds.specs.declared.event.Event.{Event}
 use Rattle.lattice.specs.Shape.{Shape}
 use Rattle.lattice.specs.Places.{sites_of}
-use Rattle.lattice.specs.Surface.{first_product, second_product, rewritten, rewrite, rewrite_second, rewrite_all, after}
+use Rattle.lattice.specs.Surface.{first_product, second_product, rewritten, rewrite, rewrite_second, rewrite_all, after, HasRoom}
 
 pub get_other : (xs : List SiteState) (i j : ℕ) (s : SiteState) → j ≢ i → slice_get (set xs i s) j ≡ slice_get xs j
 get_other [] i j s h = refl
@@ -61,3 +61,11 @@ pub after_is : (l : Shape) (rules : List Rule) (sites : List SiteState) (e : Eve
 after_is l rules sites e p rule is ruled =
     ap (λ o. rewrite_all rules e o sites) is
     ∙ ap (λ o. rewrite_second (second_product o (e.channel % 2)) e.time p.second (rewrite (first_product o (e.channel % 2)) e.time p.first.0 (slice_get sites p.first.0) sites)) ruled
+
+room_in : (o : Option SiteState) → ((x : SiteState) → o ≡ Some x → x.version < 2 ^ 53) → IfSome o (λ x. x.version < 2 ^ 53)
+room_in None h = tt
+room_in (Some x) h = h x refl
+
+-- a surface with room everywhere has room at a place
+pub room_at : (l : Shape) (sites : List SiteState) (place : ℕ) → All (λ s. s.version < 2 ^ 53) sites → HasRoom l sites place
+room_at l sites place all s has = room_in (slice_get sites s) (λ x at. subst (λ (y : SiteState). y.version < 2 ^ 53) (get_or_from_slice_get sites s x x at) (all s x (slice_get_within sites s x at)))

@@ -57,6 +57,16 @@ abbrev pub after_all : Shape → List Rule → List SiteState → List Event →
 after_all l rules sites [] = sites
 after_all l rules sites (e ∷ es) = after_all l rules (after l rules sites e) es
 
+-- the last of the events, of which e is the first
+abbrev pub last_from : Event → List Event → Event
+last_from e [] = e
+last_from e (f ∷ fs) = last_from f fs
+
+-- the time of the last event, and 0 where there is none
+abbrev pub end_time : List Event → ℕ
+end_time [] = 0
+end_time (e ∷ es) = (last_from e es).time
+
 -- the channel is one of a rule
 abbrev pub IsChannelOf : List Rule → ℕ → Type 0
 IsChannelOf rules channel = channel / 2 < length rules

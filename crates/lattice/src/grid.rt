@@ -1,9 +1,10 @@
 //! The lattice and its sites.
 
-ghost use Rattle.std.specs.Prelude.{◌≡◌, ◌≤◌, ◌<◌, ◌*◌, ◌%◌, ◌^◌, ◌⊎◌, ◌↔◌, IfOk, Err};
-ghost use Rattle.lattice.specs.Places.{behind, neighbour, wraps as wraps_at, sites_of as sites_of_place};
+ghost use Rattle.std.specs.Prelude.{◌≡◌, ◌≤◌, ◌<◌, ◌*◌, ◌%◌, ◌^◌, ◌⊎◌, ◌↔◌, IfOk, Err, take};
+ghost use Rattle.lattice.specs.Places.{ArePlacesOf, behind, neighbour, wraps as wraps_at, sites_of as sites_of_place};
 ghost use Rattle.lattice.specs.declared.grid.SizeFault.TheVariants.{NoSites, TooManySites};
 
+use crate::place_list::PlaceList;
 use std::marker::Model;
 use surf_kinds::{Place, SiteId, Sites};
 
@@ -106,6 +107,7 @@ impl Lattice {
     {
         self.rows * self.cols
     }
+
     /// The sites of a place, or `None` where the number is no place.
     #[tactic(auto, unfolding(crate::specs::Places::sites_of))]
     pub fn sites_of(&self, place: Place) -> Option<Sites>
@@ -130,6 +132,26 @@ impl Lattice {
             None => None,
             Some(_) => Some(Sites { first, second }),
         }
+    }
+
+    /// Every place that has the site, rising.
+    pub fn places_of(&self, site: SiteId) -> PlaceList
+        requires { site.0 < self.now.rows * self.now.cols }
+        ensures places { ArePlacesOf self.now site.0 (take result.count result.list) }
+        ensures at_least { 1 ≤ result.count }
+        ensures at_most { result.count ≤ 7 }
+    {
+        let at = site.0;
+        let col = at % self.cols;
+        let mut places = PlaceList::new();
+        places.add(self.north(at), 2);
+        places.add(self.north_east(at, col), 3);
+        places.add(self.west(at, col), 1);
+        places.add(Some(site), 0);
+        places.add(self.east(at, col).and(Some(site)), 1);
+        places.add(self.south(at).and(Some(site)), 2);
+        places.add(self.south_west(at, col).and(Some(site)), 3);
+        places
     }
 
     /// Whether a step past an edge comes in at the other one, in a dimension of this size.
@@ -193,6 +215,33 @@ impl Lattice {
             Kind::Hex => match self.west(site, col) {
                 None => None,
                 Some(west) => self.south(west.0),
+            },
+        }
+    }
+
+    fn north(&self, site: u32) -> Option<SiteId>
+        requires site { site < self.now.rows * self.now.cols }
+        ensures { result ≡ behind self.now site 2 }
+    {
+        if site >= self.cols {
+            Some(SiteId(site - self.cols))
+        } else if self.wraps(self.rows) {
+            Some(SiteId(site + self.site_count() - self.cols))
+        } else {
+            None
+        }
+    }
+
+    fn north_east(&self, site: u32, col: u32) -> Option<SiteId>
+        requires site { site < self.now.rows * self.now.cols }
+        requires col { col ≡ site % self.now.cols }
+        ensures { result ≡ behind self.now site 3 }
+    {
+        match self.kind {
+            Kind::Square => None,
+            Kind::Hex => match self.north(site) {
+                None => None,
+                Some(north) => self.east(north.0, col),
             },
         }
     }

@@ -3,7 +3,7 @@
 ghost use Rattle.std.specs.Prelude.{◌≡◌, ◌*◌, ◌-◌, ◌<◌, ◌^◌, Some, length, slice_get, IfSome, nat_lt};
 ghost use Rattle.lattice.specs.Places.{IsPlace};
 ghost use Rattle.lattice.specs.Channels.{stands as stands_so};
-ghost use Rattle.lattice.specs.Surface.{after, first_product as first_by, second_product as second_by, rewrite as rewrite_by, IsChannelOf, HasRoom};
+ghost use Rattle.lattice.specs.Surface.{after, first_product as first_by, second_product as second_by, rewrite as rewrite_by, rewritten as rewritten_by, IsChannelOf, HasRoom};
 
 use crate::grid::Lattice;
 use surf_kinds::{Event, Rate, Rule, SiteId, SiteState, SpeciesId};
@@ -55,6 +55,18 @@ pub fn second_product(rule: &Rule, way: u8, species: SpeciesId) -> SpeciesId
     }
 }
 
+// Also where the species stays.
+fn rewritten(old: SiteState, species: SpeciesId, time: u64) -> SiteState
+    requires { old.version < 2 ^ 64 - 1 }
+    ensures { result ≡ rewritten_by species time old }
+{
+    SiteState {
+        species,
+        version: old.version + 1,
+        last: time,
+    }
+}
+
 fn rewrite_first(sites: &mut [SiteState], site: SiteId, rule: &Rule, way: u8, time: u64)
     requires way { way < 2 }
     requires within { site.0 < length sites.old }
@@ -63,11 +75,7 @@ fn rewrite_first(sites: &mut [SiteState], site: SiteId, rule: &Rule, way: u8, ti
 {
     let at = site.0 as usize;
     let old = sites[at];
-    sites[at] = SiteState {
-        species: first_product(rule, way, old.species),
-        version: old.version + 1,
-        last: time,
-    };
+    sites[at] = rewritten(old, first_product(rule, way, old.species), time);
 }
 
 fn rewrite_second(sites: &mut [SiteState], site: SiteId, rule: &Rule, way: u8, time: u64)
@@ -78,11 +86,7 @@ fn rewrite_second(sites: &mut [SiteState], site: SiteId, rule: &Rule, way: u8, t
 {
     let at = site.0 as usize;
     let old = sites[at];
-    sites[at] = SiteState {
-        species: second_product(rule, way, old.species),
-        version: old.version + 1,
-        last: time,
-    };
+    sites[at] = rewritten(old, second_product(rule, way, old.species), time);
 }
 
 /// Rewrites each site of the event's place, and no other.

@@ -40,8 +40,7 @@ pub enum SlurpError {
 
 /// All the bytes that are left, at most `most`. After an error a prefix of them was taken.
 ///
-/// While it grows, the list takes memory for about twice the bytes that were read, and at the end for at most
-/// `most` bytes.
+/// The list doubles its room as it grows, but takes room for no more than `most` bytes.
 pub fn slurp<S: Source>(alloc: Global, source: &mut S, most: usize) -> Result<Vec<u8>, SlurpError>
     ensures ok { IfOk result (λ all. IfSome (S.left source.old) (λ bytes. all.items ≡ bytes)) }
     ensures end { OnOk result (IsAtEnd (S.left source.new)) }

@@ -3,7 +3,7 @@
 /// Stands at the start and the end of each worker's turn. A test holds a worker there until another's turn has
 /// begun. It is shared between threads, its calls return, and nothing else is asked of them.
 pub trait Gate: Sync {
-    /// A turn begins. Regions are numbered from 0, and `round` is the number of rounds that ended well before.
+    /// A turn begins. Regions are numbered from 0, and `round` is the number of rounds that went well before it.
     fn enter(&self, region: u32, round: u64);
 
     /// The turn ends.

@@ -1,0 +1,9 @@
+pub mod Cuts
+pub mod Cells
+pub mod Runs
+pub mod Moves
+pub mod Numbers
+pub mod Summary
+pub mod Joined
+pub mod Sizes
+pub mod Outcomes
