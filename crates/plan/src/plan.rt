@@ -1,0 +1,175 @@
+//! A plan: rules on a lattice, with the seed of their draws.
+
+ghost use Rattle.std.specs.Prelude.{◌≡◌, ◌+◌, ◌*◌, ◌/◌, ◌^◌, ◌<◌, ◌≤◌, length, All, IfOk, IfSome, Some, None};
+ghost use Rattle.plan.specs.Index.{reactants_at, IsChannel, earliest_after, armed_by};
+ghost use Rattle.plan.specs.Next.{next_at};
+ghost use Rattle.plan.specs.Open.{IsOpen};
+ghost use Rattle.plan.specs.Held.{IsIndexed};
+ghost use Rattle.plan.specs.Products.{products_of};
+
+use crate::index::{Channel, Index, Reactants};
+use crate::order::earlier;
+use draws::Drawer;
+use lattice::Lattice;
+use rates::wait;
+use std::alloc::Global;
+use std::marker::Model;
+use surf_kinds::{Event, NoMemory, Place, Rule, SiteState, SpeciesId};
+
+/// The rules of a program on a lattice, and the seed of its draws.
+#[derive(Drop)]
+pub struct Plan {
+    lattice: Lattice,
+    rules: Vec<Rule>,
+    drawer: Drawer,
+    index: Index,
+}
+
+impl Model for Plan {
+    ghost use Rattle.plan.specs.Network.{Network};
+    ghost use Rattle.plan.specs.Held.{IsIndexed};
+
+    ghost Value = { Network };
+
+    ghost view = { λ p. record { lattice = p.lattice; rules = p.rules.items; seed = p.drawer } };
+
+    ghost invariant = { λ p. IsIndexed p.rules.items p.index };
+}
+
+impl Plan {
+    /// A plan of at most 4,096 rules. Channel `2 * rule + way` is a rule, by its number in the list, with the way in
+    /// which its reactants stand: 0 as they are written, 1 the other way round.
+    pub fn new(alloc: Global, rules: &[Rule], lattice: Lattice, seed: u64) -> Result<Plan, NoMemory>
+        requires { length rules.now ≤ 4096 }
+        ensures { IfOk result (λ p. p ≡ record { lattice = lattice; rules = rules.now; seed = seed }) }
+    {
+        let index = match index_of(alloc, rules) {
+            Ok(index) => index,
+            Err(NoMemory) => return Err(NoMemory),
+        };
+        let Ok(rules) = rules.to_vec(alloc) else {
+            return Err(NoMemory);
+        };
+        Ok(Plan {
+            lattice,
+            rules,
+            drawer: Drawer::new(seed),
+            index,
+        })
+    }
+
+    pub fn lattice(&self) -> &Lattice
+        ensures { result.now ≡ self.now.lattice }
+    {
+        &self.lattice
+    }
+
+    pub(crate) fn rules(&self) -> &[Rule]
+        ensures { result.now ≡ self.now.rules }
+    {
+        self.rules.as_slice()
+    }
+
+    /// The next event of a place whose sites have these states: of its channels of a rate above 0 the one whose wait
+    /// ends first, and the lowest of those that end together. None where the place has no such channel.
+    ///
+    /// A channel's wait begins at the greatest last of the sites, and its draw is that of the place, the sum of the
+    /// versions of its sites, and the channel. The cost goes with the channels that stand there.
+    pub fn next_of(&self, place: Place, a: SiteState, b: Option<SiteState>) -> Option<Event>
+        requires first { IsOpen a }
+        requires second { IfSome b IsOpen }
+        ensures { result ≡ next_at self.now.seed self.now.rules place.0 a b }
+    {
+        let channels = self.index.find(reactants_of(a, b));
+        self.earliest(channels, place, a, b)
+    }
+
+    /// The earliest event of these channels.
+    fn earliest(
+        &self,
+        channels: &[Channel],
+        place: Place,
+        a: SiteState,
+        b: Option<SiteState>,
+    ) -> Option<Event>
+        requires channels { All IsChannel channels.now }
+        requires first { IsOpen a }
+        requires second { IfSome b IsOpen }
+        ensures { result ≡ earliest_after self.now.seed place.0 a b None channels.now }
+    {
+        let mut best = None;
+        for channel in channels {
+            best = earlier(best, Some(self.armed(*channel, place, a, b)));
+        }
+        best
+    }
+
+    /// The event of a channel.
+    fn armed(&self, channel: Channel, place: Place, a: SiteState, b: Option<SiteState>) -> Event
+        requires channel { IsChannel channel }
+        requires first { IsOpen a }
+        requires second { IfSome b IsOpen }
+        ensures { result ≡ armed_by self.now.seed place.0 a b channel }
+    {
+        let (occurrence, last) = match b {
+            None => (a.version, a.last),
+            Some(b) => (a.version + b.version, a.last.max(b.last)),
+        };
+        let draw = self.drawer.draw(place, occurrence, channel.number);
+        Event {
+            time: last + wait(channel.rate, draw).unwrap(),
+            place,
+            channel: channel.number,
+        }
+    }
+
+    /// What a channel of a rule leaves at the first site and, for a rule of two sites, at the second.
+    pub fn products(&self, channel: u16) -> (SpeciesId, Option<SpeciesId>)
+        requires { channel / 2 < length self.now.rules }
+        ensures { Some result ≡ products_of self.now.rules channel }
+    {
+        match self.rules[usize::from(channel / 2)] {
+            Rule::One { rate: _, a: _, c } => (c, None),
+            Rule::Two {
+                rate: _,
+                a: _,
+                b: _,
+                c,
+                d,
+            } => {
+                if channel % 2 == 0 {
+                    (c, Some(d))
+                } else {
+                    (d, Some(c))
+                }
+            }
+        }
+    }
+}
+
+/// What stands at the sites of a place.
+fn reactants_of(a: SiteState, b: Option<SiteState>) -> Reactants
+    ensures { result ≡ reactants_at a b }
+{
+    Reactants {
+        first: a.species,
+        second: match b {
+            Some(b) => Some(b.species),
+            None => None,
+        },
+    }
+}
+
+fn index_of(alloc: Global, rules: &[Rule]) -> Result<Index, NoMemory>
+    requires { length rules.now ≤ 4096 }
+    ensures { IfOk result (λ i. IsIndexed rules.now i) }
+{
+    let mut index = Index::new(alloc);
+    for (i, rule) in rules.iter().enumerate() {
+        match index.add_rule(alloc, 2 * i as u16, *rule) {
+            Ok(()) => {}
+            Err(NoMemory) => return Err(NoMemory),
+        }
+    }
+    Ok(index)
+}

@@ -1,0 +1,5 @@
+mod Written
+mod Grows
+mod TextSteps
+mod RunSteps
+pub mod Messages
