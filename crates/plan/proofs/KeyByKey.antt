@@ -1,9 +1,9 @@
 -- The history, key by key.
-use Rattle.std.proofs.Common.{◌≡◌, ◌≢◌, ℕ, zero, suc, ◌+◌, ◌*◌, ◌/◌, ◌%◌, ◌<◌, ◌≤◌, List, [], ◌∷◌, length, Option, Some, None, Bool, true, false, ◌==◌, ◌⊎◌, inl, inr, refl, sym, ap, ◌∙◌, subst, arith, rules, set, if◌then◌else◌, cond}
-use Rattle.std.specs.Prelude.{slice_get, nat_le, filter}
+use Rattle.std.proofs.Common.{◌≡◌, ◌≢◌, ℕ, zero, suc, ◌*◌, ◌/◌, ◌<◌, ◌≤◌, List, [], ◌∷◌, Option, Some, None, Bool, true, false, ◌⊎◌, inl, inr, refl, sym, ap, ◌∙◌, subst, arith, rules, if◌then◌else◌, cond}
+use Rattle.std.specs.Prelude.{slice_get}
 use Rattle.std.specs.Option.{option_map_or}
-use Rattle.std.proofs.lemmas.Option.{none-some, same_Some, slice_get_within}
-use Rattle.std.proofs.lemmas.Bool.{eq-eqb, le-leb, leb-true}
+use Rattle.std.proofs.lemmas.Option.{none-some, same_Some}
+use Rattle.std.proofs.lemmas.Bool.{le-leb, leb-true}
 use Rattle.std.proofs.lemmas.Bool.Decides.{eqb_tells}
 use Rattle.surf_kinds.specs.declared.rule.Rule.{Rule}
 use Rattle.lattice.specs.Shape.{Shape}
@@ -16,10 +16,10 @@ use Rattle.lattice.specs.Surface.{after, after_all}
 use Rattle.surf_kinds.specs.Keys.{is_before, earlier, RiseFrom, RiseStrictly}
 use Rattle.plan.specs.Next.{next, next_both, next_second, next_of_sites, least_upto, least}
 use Rattle.plan.specs.History.{within, due, history, IsHistory, IsIn, below, room, first_events}
-use Rattle.plan.proofs.Offers.{either, OfSurface, OfSites, of_sites, of_place, of_next, IsEarlier}
+use Rattle.plan.proofs.Offers.{either, OfSurface, of_sites, of_place, IsEarlier}
 use Rattle.plan.proofs.Writes.{IsAt, IsSecond, is_second, rewrite_same, rewrite_other, second_same, second_at, second_other}
 use Rattle.plan.proofs.Keys.{Before, NotBefore, tells}
-use Rattle.plan.proofs.Steps.{Due, of_due, within_is, after_is, one, two, after_one, none_or_some, room_falls, full}
+use Rattle.plan.proofs.Steps.{of_due, within_is, after_is, one, two, after_one, none_or_some, room_falls, full}
 
 -- there is an event, and it isn't after g
 pub record Beaten (o : Option Event) (g : Event) : Type 0 where

@@ -1,15 +1,15 @@
 -- Lists of channels that are found by their reactants.
-use Rattle.std.proofs.Common.{◌≡◌, ℕ, zero, suc, ◌+◌, ◌<◌, ◌≤◌, List, [], ◌∷◌, ◌++◌, length, Option, Some, None, Bool, true, false, cond, refl, sym, ap, ◌∙◌, arith, set, get_or, not, inl, inr, ◌⊎◌, subst}
+use Rattle.std.proofs.Common.{◌≡◌, ℕ, suc, ◌+◌, ◌<◌, ◌≤◌, List, [], ◌∷◌, ◌++◌, length, Option, Some, None, Bool, true, false, cond, refl, sym, ap, ◌∙◌, arith, set, get_or, not, inl, inr, ◌⊎◌}
 use Rattle.std.specs.Prelude.{position, if◌then◌else◌, ◌||◌, ◌&&◌, ◌==◌, nat_lt}
 use Rattle.std.specs.List.{list_any, position_or_len}
 use Rattle.std.specs.Global.{Vec}
 use Rattle.std.proofs.lemmas.Option.{none-some, same_Some}
-use Rattle.std.proofs.lemmas.Bool.Decides.{eqb_tells, nat_tests}
-use Rattle.std.proofs.lemmas.Bool.{leb-true, le-leb}
+use Rattle.std.proofs.lemmas.Bool.Decides.{nat_tests}
+use Rattle.std.proofs.lemmas.Bool.{leb-true}
 use Rattle.surf_kinds.specs.declared.site.SpeciesId.{SpeciesId}
 use Rattle.plan.specs.declared.index.Reactants.{Reactants}
 use Rattle.plan.specs.declared.index.Channel.{Channel}
-use Rattle.plan.specs.Index.{same, same_species, is_equal, listed}
+use Rattle.plan.specs.Index.{same, is_equal, listed}
 
 -- the code's equality is that of the fields
 pub equal_same : (r k : Reactants) → is_equal r k ≡ same r k

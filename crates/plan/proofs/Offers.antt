@@ -1,9 +1,8 @@
 -- What is known of an event that a place or a surface offers.
-use Rattle.std.proofs.Common.{◌≡◌, ℕ, zero, suc, ◌+◌, ◌*◌, ◌/◌, ◌%◌, ◌<◌, ◌≤◌, max, List, length, Option, Some, None, Bool, true, false, ◌==◌, ◌⊎◌, inl, inr, refl, sym, ap, ◌∙◌, subst, arith, rules, if◌then◌else◌}
+use Rattle.std.proofs.Common.{◌≡◌, ℕ, zero, suc, ◌+◌, ◌*◌, ◌/◌, ◌<◌, List, length, Option, Some, None, Bool, true, false, ◌⊎◌, inl, inr, refl, sym, ap, ◌∙◌, arith, rules, if◌then◌else◌}
 use Rattle.std.specs.Prelude.{slice_get, ⊤}
 use Rattle.std.proofs.lemmas.Option.{none-some, same_Some, slice_get_within}
 use Rattle.surf_kinds.specs.declared.rule.Rule.{Rule}
-use Rattle.surf_kinds.specs.Rates.{Fraction}
 use Rattle.surf_kinds.specs.declared.site.SiteId.{SiteId}
 use Rattle.surf_kinds.specs.declared.site.Sites.{Sites}
 use Rattle.surf_kinds.specs.declared.site.SiteState.{SiteState}
@@ -13,9 +12,8 @@ use Rattle.lattice.specs.Places.{sites_of}
 use Rattle.lattice.specs.Channels.{stands, rate_of}
 use Rattle.surf_kinds.specs.Keys.{is_before, earlier}
 use Rattle.draws.specs.Draw.{draw_of}
-use Rattle.rates.specs.Waits.{wait_of}
 use Rattle.rates.proofs.Laws.{wait-at_least}
-use Rattle.plan.specs.Next.{latest, species_of, occurrence, offer, next_upto, next_at, next_first, next_both, next_second, next_of_sites, next, least_upto, least}
+use Rattle.plan.specs.Next.{latest, species_of, occurrence, offer, next_upto, next_first, next_both, next_second, next_of_sites, next, least_upto}
 
 pub picked : {X : Type 0} (b : Bool) (x e : X) → (if b then Some x else None) ≡ Some e → (b ≡ true) × (x ≡ e)
 picked true x e h = (refl, same_Some x e h)

@@ -1,5 +1,5 @@
 -- A run on its way: what has happened, and what the surface keeps to.
-use Rattle.std.proofs.Common.{◌≡◌, ℕ, zero, suc, ◌+◌, ◌-◌, ◌*◌, ◌/◌, ◌^◌, ◌<◌, ◌≤◌, List, [], ◌∷◌, ◌++◌, length, Option, Some, None, refl, sym, ap, ◌∙◌, append_assoc, append-nil, arith, subst, inl, inr, ◌⊎◌, get_or}
+use Rattle.std.proofs.Common.{◌≡◌, ℕ, ◌+◌, ◌^◌, ◌<◌, ◌≤◌, List, [], ◌∷◌, ◌++◌, length, Option, Some, None, refl, sym, ap, ◌∙◌, append_assoc, append-nil, arith, subst, inl, get_or}
 use Rattle.std.specs.Prelude.{All, IfSome, IsSome, slice_get}
 use Rattle.std.specs.Option.{option_map_or}
 use Rattle.std.proofs.lemmas.Option.{none-some, same_Some, slice_get_within, slice_get-get_or}
@@ -8,16 +8,15 @@ use Rattle.surf_kinds.specs.declared.site.SiteState.{SiteState}
 use Rattle.surf_kinds.specs.declared.site.SpeciesId.{SpeciesId}
 use Rattle.surf_kinds.specs.declared.event.Event.{Event}
 use Rattle.lattice.specs.Shape.{Shape}
-use Rattle.lattice.specs.Places.{sites_of, IsPlace, HasSite}
+use Rattle.lattice.specs.Places.{sites_of, IsPlace}
 use Rattle.lattice.specs.Surface.{after, after_all, first_surface, IsChannelOf, HasRoom}
 use Rattle.lattice.proofs.AfterSite.{after_length}
 use Rattle.lattice.proofs.Seven.{KeyBefore, Bounded, bounded_start, bounded_step, bounded_gives}
 use Rattle.plan.specs.Next.{next}
 use Rattle.plan.specs.Open.{IsOpen}
 use Rattle.plan.specs.History.{due, history, room}
-use Rattle.plan.proofs.Offers.{OfSurface, of_next}
-use Rattle.plan.proofs.Keys.{Before}
-use Rattle.plan.proofs.Steps.{Due, of_due, room_falls, history_step}
+use Rattle.plan.proofs.Offers.{of_next}
+use Rattle.plan.proofs.Steps.{of_due, room_falls, history_step}
 use Rattle.plan.proofs.KeyByKey.{rises, due_next}
 
 -- from the surface `start` the events `done` have led to the surface `now`

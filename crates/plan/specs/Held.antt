@@ -1,5 +1,5 @@
 -- What a plan keeps beside its rules.
-use Rattle.std.specs.Prelude.{◌≡◌, ℕ, ◌≤◌, List, length}
+use Rattle.std.specs.Prelude.{◌≡◌, ◌≤◌, List, length}
 use Rattle.surf_kinds.specs.declared.rule.Rule.{Rule}
 use Rattle.plan.specs.declared.index.Reactants.{Reactants}
 use Rattle.plan.specs.declared.index.Index.{Index}

@@ -1,5 +1,5 @@
 -- What a site keeps to, so that its next events have times and draws.
-use Rattle.std.specs.Prelude.{ℕ, ◌^◌, ◌<◌, ◌≤◌}
+use Rattle.std.specs.Prelude.{◌^◌, ◌<◌, ◌≤◌}
 use Rattle.surf_kinds.specs.declared.site.SiteState.{SiteState}
 
 -- the version is below 2 ^ 53, and the last tick is at most 10 ^ 15

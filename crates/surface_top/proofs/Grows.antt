@@ -1,5 +1,5 @@
 -- Texts of the first so many parts.
-use Rattle.std.proofs.Common.{◌≡◌, ℕ, zero, suc, ◌+◌, ◌-◌, ◌<◌, ◌≤◌, List, [], ◌∷◌, ◌++◌, refl, sym, ap, ◌∙◌, append_assoc, append-nil, arith, subst}
+use Rattle.std.proofs.Common.{◌≡◌, ℕ, zero, suc, ◌+◌, ◌-◌, ◌<◌, ◌≤◌, List, [], ◌++◌, sym, ap, ◌∙◌, append_assoc, append-nil, arith, subst}
 use Rattle.surface_top.specs.declared.pages.WriteError.{WriteError}
 use Rattle.surface_top.specs.declared.pages.WriteError.TheVariants as errors
 use Rattle.surface_top.specs.Pages.{Page, Wrote, Stopped}

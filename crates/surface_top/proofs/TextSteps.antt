@@ -1,5 +1,5 @@
 -- The parts of a surface's text.
-use Rattle.std.proofs.Common.{◌≡◌, ℕ, zero, suc, ◌+◌, List, [], ◌∷◌, ◌++◌, refl}
+use Rattle.std.proofs.Common.{◌≡◌, ℕ, zero, suc, ◌+◌, List, [], ◌∷◌, refl}
 use Rattle.std.specs.Prelude.{slice_index_or}
 use Rattle.surf_kinds.specs.declared.site.SiteState.{SiteState}
 use Rattle.surface_top.specs.RunText.{cells_text, cell_text, name_at, rows_text, row_text, counts_text, count_text, count_of}

@@ -1,7 +1,6 @@
 -- Texts that are written one after the other.
-use Rattle.std.proofs.Common.{◌≡◌, ℕ, ◌+◌, ◌≤◌, List, [], ◌∷◌, ◌++◌, Option, Some, None, refl, sym, ap, ◌∙◌, append_assoc, append-nil, arith, subst}
+use Rattle.std.proofs.Common.{◌≡◌, ℕ, ◌≤◌, List, [], ◌++◌, Option, Some, None, sym, ap, ◌∙◌, append_assoc, append-nil, arith, subst}
 use Rattle.std.specs.Io.KnownBytes.{Appends}
-use Rattle.surf_outside.specs.Causes.{Rose, risen}
 use Rattle.surf_outside.specs.Known.{AppendsPrefix}
 use Rattle.surf_outside.proofs.Gains.{appends_more, prefix_whole, prefix_more, prefix_longer}
 use Rattle.surface_top.specs.declared.pages.WriteError.{WriteError}

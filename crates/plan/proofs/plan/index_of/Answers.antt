@@ -1,7 +1,6 @@
 use Rattle.std.proofs.Common.{◌≡◌, ◌+◌, ◌*◌, ◌++◌, suc, Some, sym, ap, ◌∙◌, arith, refl}
 use Rattle.std.specs.Prelude.{slice_get}
 use Rattle.std.proofs.lemmas.Option.{slice_get_read}
-use Rattle.surf_kinds.specs.declared.rule.Rule.{Rule}
 use Rattle.plan.specs.Index.{channel_at, channels_upto}
 use Rattle.plan.proofs.plan.index_of.Goals as goal
 

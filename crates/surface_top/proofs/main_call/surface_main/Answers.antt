@@ -1,4 +1,4 @@
-use Rattle.std.proofs.Common.{◌≡◌, ℕ, List, sym, ap, ◌∙◌, subst, map, string_bytes}
+use Rattle.std.proofs.Common.{sym, ap, ◌∙◌, subst, map, string_bytes}
 use Rattle.surf_kinds.specs.declared.status.Status.{Status}
 use Rattle.surf_outside.specs.Causes.{Rose}
 use Rattle.surface_top.specs.Answer.{known}

@@ -1,9 +1,9 @@
-use Rattle.std.proofs.Common.{◌≡◌, ◌<◌, ◌≤◌, ℕ, List, ◌+◌, length, sym, ap, ◌∙◌, subst, arith}
-use Rattle.lattice.specs.Surface.{after, after_all}
-use Rattle.plan.specs.History.{history, due, room}
+use Rattle.std.proofs.Common.{◌<◌, ◌+◌, length, sym, ap, ◌∙◌, subst, arith}
+use Rattle.lattice.specs.Surface.{after_all}
+use Rattle.plan.specs.History.{room}
 use Rattle.plan.proofs.Steps.{of_due, room_falls}
 use Rattle.plan.proofs.Runs.{run_open, can_fire}
-use Rattle.surface_top.specs.Pages.{Page, page, Wrote, Stopped}
+use Rattle.surface_top.specs.Pages.{page}
 use Rattle.surface_top.specs.RunText.{event_text, events_text}
 use Rattle.surface_top.proofs.Written.{wrote_as, stopped_as}
 use Rattle.surface_top.proofs.RunSteps.{Told, told_start, told_step, told_stopped, told_memory, told_fits, told_history}

@@ -1,6 +1,6 @@
-use Rattle.std.proofs.Common.{◌≡◌, ◌++◌, [], ℕ, List, sym, ap, ◌∙◌, append-nil}
+use Rattle.std.proofs.Common.{◌++◌, [], ap, ◌∙◌, append-nil}
 use Rattle.plan.specs.History.{history}
-use Rattle.surface_top.specs.RunText.{events_text, close_text, run_text}
+use Rattle.surface_top.specs.RunText.{events_text, close_text}
 use Rattle.surface_top.proofs.Written.{and_then, puts_as, wrote_more, wrote_as, stopped_as, stopped_after, stops}
 use Rattle.surface_top.proofs.RunSteps.{run_text_is, run_text_begins}
 use Rattle.surface_top.proofs.run.run_plan.Goals as goal

@@ -1,4 +1,4 @@
-use Rattle.std.proofs.Common.{◌≡◌, ℕ, ◌<◌, ◌≤◌, vec_len, get_or, take}
+use Rattle.std.proofs.Common.{◌≡◌, ℕ, ◌<◌, vec_len, get_or, take}
 use Rattle.surface_top.specs.RunText.{count_of}
 use Rattle.surface_top.proofs.text.count_sites.Given as goal
 

@@ -1,4 +1,4 @@
-use Rattle.std.proofs.Common.{◌≡◌, ◌++◌, ℕ, List, sym, ap, ◌∙◌}
+use Rattle.std.proofs.Common.{◌++◌, ◌∙◌}
 use Rattle.surface_top.specs.RunText.{surface_line, body_text, end_text}
 use Rattle.surface_top.proofs.Written.{and_then, puts_as, wrote_more, wrote_as, stopped_as, stopped_after, stopped_longer}
 use Rattle.surface_top.proofs.text.put_close.Goals as goal

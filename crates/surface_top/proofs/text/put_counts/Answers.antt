@@ -1,4 +1,4 @@
-use Rattle.std.proofs.Common.{◌≡◌, ◌<◌, ◌≤◌, ℕ, List, [], sym, ap, ◌∙◌, arith, get_or, length, vec_len}
+use Rattle.std.proofs.Common.{◌≡◌, [], sym, ap, ◌∙◌, arith, get_or, length, vec_len}
 use Rattle.std.proofs.lemmas.Option.{get_or_from_slice_get, slice_get_read}
 use Rattle.surface_top.specs.RunText.{counts_text, count_text, count_of}
 use Rattle.surface_top.proofs.Written.{wrote_nothing, wrote_as}

@@ -1,4 +1,4 @@
-use Rattle.std.proofs.Common.{◌≡◌, ◌++◌, ◌∷◌, [], ℕ, List, sym, ap, ◌∙◌, length}
+use Rattle.std.proofs.Common.{◌++◌, ◌∷◌, [], ap, ◌∙◌, length}
 use Rattle.std.specs.Prelude.{codes}
 use Rattle.surface_top.specs.RunText.{rows_text, counts_text}
 use Rattle.surface_top.proofs.Written.{and_then, wrote_more, wrote_as, stopped_as, stopped_after, stopped_longer}

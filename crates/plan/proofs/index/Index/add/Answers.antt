@@ -1,4 +1,4 @@
-use Rattle.std.proofs.Common.{◌≡◌, ◌∷◌, ◌++◌, [], sym, ap, ◌∙◌, get_or, set}
+use Rattle.std.proofs.Common.{◌∷◌, ◌++◌, [], ap, ◌∙◌, get_or, set}
 use Rattle.plan.specs.Index.{is_equal, listed}
 use Rattle.plan.proofs.Listed.{listed-set, position-Some_place}
 use Rattle.plan.proofs.index.Index.add.Goals as goal

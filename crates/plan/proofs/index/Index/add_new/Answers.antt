@@ -1,4 +1,4 @@
-use Rattle.std.proofs.Common.{◌≡◌, ◌∷◌, ◌++◌, [], sym, ap, ◌∙◌, cond}
+use Rattle.std.proofs.Common.{◌≡◌, ◌∷◌, ◌++◌, [], ap, ◌∙◌, cond}
 use Rattle.plan.specs.Index.{is_equal, listed}
 use Rattle.plan.proofs.Listed.{listed-push, any-none_place}
 use Rattle.plan.proofs.index.Index.add_new.Goals as goal

@@ -1,6 +1,6 @@
-use Rattle.std.proofs.Common.{◌≡◌, None, sym, ap, ◌∙◌, subst, length}
+use Rattle.std.proofs.Common.{None, sym, ap, ◌∙◌, subst, length}
 use Rattle.std.specs.Prelude.{All}
-use Rattle.plan.specs.Index.{IsChannel, reactants_at, found_in, channels_of, earliest_after}
+use Rattle.plan.specs.Index.{IsChannel, reactants_at, found_in, earliest_after}
 use Rattle.plan.specs.Next.{next_at}
 use Rattle.plan.proofs.Indexed.{channels-All, earliest-channels}
 use Rattle.plan.proofs.plan.Plan.next_of.Goals as goal
