@@ -1,15 +1,11 @@
 -- The names by first appearance, and their numbers, as one more name comes.
-use Rattle.std.proofs.Common.{◌≡◌, ℕ, ◌+◌, Bool, true, false, cond, not, ◌||◌, List, [], ◌∷◌, ◌++◌, map, fold, refl, ap, ◌∙◌, append_assoc}
+use Rattle.std.proofs.Common.{◌≡◌, ℕ, ◌+◌, Bool, true, false, cond, not, ◌||◌, List, [], ◌∷◌, ◌++◌, map, fold, refl, ap, ◌∙◌}
 use Rattle.std.specs.List.{list_any, position_or_len, AllByRecursion}
 use Rattle.std.specs.Str.{bytes_eq}
-use Rattle.std.proofs.lemmas.List.{map_push, append-nil}
-use Rattle.std.proofs.lemmas.List.Sums.{fold-append}
 use Rattle.std.proofs.lemmas.List.Folds.{list_any-append}
 use Rattle.std.proofs.lemmas.Slice.Eq.{bytes_eq-Decides}
 use Rattle.species.specs.Names.{with_name, place_of}
 use Rattle.surf_kinds.specs.declared.site.SpeciesId.{SpeciesId}
-use Rattle.manifest_read.specs.Manifest.{numbered}
-use Rattle.manifest_read.specs.Sorts.{SaidRule, SaidTwo}
 
 -- a place that was found stays the first one
 module _ {X : Type 0} (p : X → Bool) where
@@ -57,18 +53,6 @@ kept-itself known word = by (list_any (bytes_eq word) known) refl
 abbrev pub AreKept : List (List ℕ) → List (List ℕ) → Type 0
 AreKept known words = AllByRecursion (IsKept known) words
 
-pub kept-all : (known words : List (List ℕ)) (word : List ℕ) → AreKept known words → AreKept (with_name known word) words
-kept-all known [] word h = tt
-kept-all known (w ∷ ws) word h = (kept-more known word w h.0, kept-all known ws word h.1)
-
-pub kept-push : (known words : List (List ℕ)) (word : List ℕ) → AreKept known words → AreKept (with_name known word) (words ++ word ∷ [])
-kept-push known [] word h = (kept-itself known word, tt)
-kept-push known (w ∷ ws) word h = (kept-more known word w h.0, kept-push known ws word h.1)
-
-pub places-more : (known words : List (List ℕ)) (word : List ℕ) → AreKept known words → map (place_of (with_name known word)) words ≡ map (place_of known) words
-places-more known [] word h = refl
-places-more known (w ∷ ws) word h = rw (place-more known word w h.0, places-more known ws word h.1) refl
-
 -- the names of a list are kept once they came
 pub kept-fold : (words known : List (List ℕ)) (name : List ℕ) → IsKept known name → IsKept (fold with_name known words) name
 kept-fold [] known name h = h
@@ -77,10 +61,6 @@ kept-fold (w ∷ ws) known name h = kept-fold ws (with_name known w) name (kept-
 pub place-fold : (words known : List (List ℕ)) (name : List ℕ) → IsKept known name → place_of (fold with_name known words) name ≡ place_of known name
 place-fold [] known name h = refl
 place-fold (w ∷ ws) known name h = place-fold ws (with_name known w) name (kept-more known w name h) ∙ place-more known w name h
-
-pub are-kept-fold : (words known names : List (List ℕ)) → AreKept known names → AreKept (fold with_name known words) names
-are-kept-fold words known [] h = tt
-are-kept-fold words known (n ∷ ns) h = (kept-fold words known n h.0, are-kept-fold words known ns h.1)
 
 pub places-fold : (words known names : List (List ℕ)) → AreKept known names → map (place_of (fold with_name known words)) names ≡ map (place_of known) names
 places-fold words known [] h = refl

@@ -1,21 +1,19 @@
 -- The steps of the reader make what the definitions say.
-use Rattle.std.proofs.Common.{◌≡◌, ℕ, suc, ◌+◌, ◌≤◌, Bool, true, false, cond, not, ◌&&◌, ◌==◌, List, [], ◌∷◌, ◌++◌, length, Option, Some, None, Result, Ok, Err, refl, sym, ap, subst, ◌∙◌, arith, add-one}
+use Rattle.std.proofs.Common.{◌≡◌, ℕ, ◌+◌, ◌≤◌, Bool, true, false, cond, ◌&&◌, ◌==◌, List, [], ◌∷◌, ◌++◌, length, Option, Some, None, Result, Ok, Err, refl, sym, ap, subst, ◌∙◌, arith, add-one}
 use Rattle.std.specs.Prelude.{nat_le, is_some, unwrap_or, codes}
-use Rattle.std.specs.List.{list_all, filter_map, cons_option, slice_split, AllByRecursion}
+use Rattle.std.specs.List.{list_all, cons_option, AllByRecursion}
 use Rattle.std.specs.Option.{option_map}
 use Rattle.std.specs.Str.{bytes_eq}
 use Rattle.std.proofs.lemmas.Bool.Decides.{nat_tests}
 use Rattle.std.proofs.lemmas.List.{append-nil}
-use Rattle.std.proofs.lemmas.List.Elements.{filter_map-append}
 use Rattle.std.proofs.lemmas.List.Splits.{length-slice_split}
 use Rattle.surf_text.specs.Numbers.{u64_of, is_number}
 use Rattle.manifest_read.specs.declared.fault.ManifestFault.{ManifestFault}
-use Rattle.manifest_read.specs.declared.manifest.Manifest.{Manifest}
-use Rattle.manifest_read.specs.Sorts.{SaidRule, SaidOne, SaidTwo, LineSort, Seed, Duration, StartRules, RuleLine, EndRules, StartSurface, Row, EndSurface, Formless, is_name, pieces_of, section_of, setting_of, rate_of, billion_of, at_most_billion, one_of, two_of, fixed_of, row_of, sort_by, sort_of}
-use Rattle.manifest_read.specs.Stages.{Stage, Start, stage_after}
-use Rattle.manifest_read.specs.Manifest.{Line, stage_of, sorts_of, seed_in, units_in, rule_in, row_in, has_form, not_built, outcome}
+use Rattle.manifest_read.specs.Sorts.{SaidRule, SaidOne, SaidTwo, LineSort, Seed, Duration, StartRules, RuleLine, EndRules, StartSurface, Row, EndSurface, Formless, is_name, pieces_of, section_of, setting_of, rate_of, billion_of, at_most_billion, fixed_of, row_of, sort_by, sort_of}
+use Rattle.manifest_read.specs.Stages.{Stage, stage_after}
+use Rattle.manifest_read.specs.Manifest.{Line, stage_of, sorts_of, rule_in, row_in, has_form, not_built}
 use Rattle.manifest_read.specs.Steps.{Kept, said, said_at, by_sort, next}
-use Rattle.manifest_read.proofs.Moves.{Move, move, Fit, fit-more, Before, before, seeds_in, all_units_in, rules_in, rows_in}
+use Rattle.manifest_read.proofs.Moves.{move, Fit, fit-more, Before, before, seeds_in, all_units_in, rules_in, rows_in}
 use Rattle.manifest_read.proofs.Summary.{sum, sum_of, within, is_within_sorts, kept_of, sum-same, more, sum-more, within-more, said_rule, said_row, both}
 
 -- What a line's sort keeps to: names in a row, of which there is one, and durations of at most a billion

@@ -1,21 +1,20 @@
 -- The names of rules and rows, and their numbers, as more of them come.
-use Rattle.std.proofs.Common.{◌≡◌, ℕ, suc, ◌+◌, ◌<◌, ◌≤◌, Bool, true, false, cond, not, ◌||◌, ◌&&◌, ◌==◌, List, [], ◌∷◌, ◌++◌, length, map, fold, Result, Ok, refl, sym, ap, subst, ◌∙◌, arith, append_assoc}
+use Rattle.std.proofs.Common.{◌≡◌, ℕ, suc, ◌+◌, ◌≤◌, Bool, true, false, cond, not, ◌&&◌, ◌==◌, List, [], ◌∷◌, ◌++◌, length, map, fold, Result, Ok, refl, sym, ap, ◌∙◌, arith, append_assoc}
 use Rattle.std.specs.Prelude.{nat_lt, nat_le}
 use Rattle.std.specs.List.{list_any, list_all, flat_map}
 use Rattle.std.specs.Str.{bytes_eq}
 use Rattle.std.proofs.lemmas.Bool.Decides.{nat_tests}
-use Rattle.std.proofs.lemmas.List.{append-nil, length-append, length-map, map_push}
+use Rattle.std.proofs.lemmas.List.{append-nil, length-append}
 use Rattle.std.proofs.lemmas.List.Sums.{fold-append}
 use Rattle.std.proofs.lemmas.Grind.{flat_map-append}
-use Rattle.surf_kinds.specs.declared.rule.Rule.{Rule}
 use Rattle.surf_kinds.specs.declared.site.SpeciesId.{SpeciesId}
 use Rattle.species.specs.Names.{with_name, place_of, is_full}
 use Rattle.manifest_read.specs.declared.fault.ManifestFault.{ManifestFault}
 use Rattle.manifest_read.specs.declared.manifest.Manifest.{Manifest}
 use Rattle.manifest_read.specs.Sorts.{SaidRule, SaidOne, SaidTwo, is_name}
 use Rattle.manifest_read.specs.Manifest.{names_said, numbered}
-use Rattle.manifest_read.specs.Steps.{Kept, names_fit, cell, cells, with_cell, onward, refused}
-use Rattle.manifest_read.proofs.Cells.{IsKept, AreKept, place-fold, places-fold, kept-itself, kept-words}
+use Rattle.manifest_read.specs.Steps.{Kept, names_fit, cells, with_cell, onward, refused}
+use Rattle.manifest_read.proofs.Cells.{AreKept, place-fold, kept-itself, kept-words}
 
 -- a list of names never gets shorter
 longer : (known : List (List ℕ)) (name : List ℕ) → length known ≤ length (with_name known name)

@@ -1,8 +1,7 @@
 -- Reading line by line gives what the definition of a whole text gives.
-use Rattle.std.proofs.Common.{◌≡◌, ℕ, suc, ◌+◌, ◌<◌, ◌≤◌, Bool, true, false, cond, not, ◌&&◌, ◌==◌, List, [], ◌∷◌, ◌++◌, length, Option, Some, None, Result, Ok, Err, refl, sym, ap, subst, ◌∙◌, arith, add-one}
+use Rattle.std.proofs.Common.{◌≡◌, ℕ, suc, ◌+◌, ◌≤◌, Bool, true, false, cond, ◌==◌, List, [], ◌∷◌, ◌++◌, length, Result, Ok, Err, refl, sym, ap, subst, ◌∙◌, arith}
 use Rattle.std.specs.Prelude.{min, IfOk}
 use Rattle.std.specs.List.{onto_first}
-use Rattle.std.proofs.lemmas.Bool.Decides.{nat_tests}
 use Rattle.surf_text.specs.Lines.{lines_of}
 use Rattle.manifest_read.specs.declared.fault.ManifestFault.{ManifestFault}
 use Rattle.manifest_read.specs.declared.fault.ManifestError.{ManifestError}
@@ -10,7 +9,7 @@ use Rattle.manifest_read.specs.declared.fault.ManifestError.TheVariants as error
 use Rattle.manifest_read.specs.declared.manifest.Manifest.{Manifest}
 use Rattle.manifest_read.specs.Manifest.{Line, stage_of, has_form, not_built, is_ended, outcome, is_fed, unfed, manifest_of, manifest_of_lines}
 use Rattle.manifest_read.specs.Sound.{IsSound}
-use Rattle.manifest_read.specs.Steps.{Kept, start, next, ended, IsSized, Fails, Takes, Gives}
+use Rattle.manifest_read.specs.Steps.{Kept, start, next, ended, IsSized, Fails, Gives}
 use Rattle.manifest_read.proofs.Summary.{kept_of}
 use Rattle.manifest_read.proofs.Joined.{Formed, nothing, formed-more, next-is}
 use Rattle.manifest_read.proofs.Sizes.{sized, sound}

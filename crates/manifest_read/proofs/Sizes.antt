@@ -1,13 +1,11 @@
 -- The counts of lines that all have their form.
-use Rattle.std.proofs.Common.{◌≡◌, ℕ, suc, ◌+◌, ◌*◌, ◌^◌, ◌<◌, ◌≤◌, Bool, true, false, cond, not, ◌&&◌, ◌==◌, List, [], ◌∷◌, ◌++◌, length, map, fold, Option, Some, None, Result, Ok, Err, refl, sym, ap, subst, ◌∙◌, arith, add-one, lit≤, nat_lt}
+use Rattle.std.proofs.Common.{◌≡◌, ℕ, suc, ◌+◌, ◌*◌, ◌≤◌, true, ◌==◌, List, [], ◌∷◌, length, map, refl, sym, ◌∙◌, arith, lit≤, nat_lt}
 use Rattle.std.proofs.Math.Nat.{mul-le-mul_left}
-use Rattle.std.specs.List.{list_all, list_any, flat_map, filter_map, All, AllByRecursion, position_or_len}
+use Rattle.std.specs.List.{list_all, flat_map, All, AllByRecursion, position_or_len}
 use Rattle.std.specs.Str.{bytes_eq}
 use Rattle.std.proofs.lemmas.Bool.Decides.{nat_tests}
 use Rattle.std.proofs.lemmas.List.{length-append, length-map}
 use Rattle.std.proofs.lemmas.List.Elements.{All-nil, All-cons}
-use Rattle.surf_kinds.specs.declared.rule.Rule.{Rule}
-use Rattle.surf_kinds.specs.declared.site.SpeciesId.{SpeciesId}
 use Rattle.lattice.specs.Shape.{IsSize}
 use Rattle.species.specs.Names.{place_of}
 use Rattle.species.proofs.NameLists.{list_any-position}
@@ -19,7 +17,7 @@ use Rattle.manifest_read.specs.Steps.{IsLattice, IsSized}
 use Rattle.manifest_read.proofs.Cells.{IsKept, AreKept}
 use Rattle.manifest_read.proofs.Moves.{Fit, all_units_in, rules_in, rows_in}
 use Rattle.manifest_read.proofs.Numbers.{species_in, species-rules, species-sites, kept-left, kept-right}
-use Rattle.manifest_read.proofs.Summary.{kept_of, sites_in, Limits, limits, both}
+use Rattle.manifest_read.proofs.Summary.{kept_of, sites_in, limits, both}
 use Rattle.manifest_read.proofs.Joined.{Proper, Formed}
 
 equal : (n m : ℕ) → (n == m) ≡ true → n ≡ m

@@ -1,7 +1,7 @@
 -- What is kept after some lines, as the definitions say it, and what the next line makes of it.
-use Rattle.std.proofs.Common.{◌≡◌, ℕ, suc, ◌+◌, ◌*◌, ◌<◌, ◌≤◌, Bool, true, false, cond, not, ◌&&◌, ◌==◌, List, [], ◌∷◌, ◌++◌, length, map, fold, Option, Some, None, Result, Ok, Err, refl, sym, ap, ◌∙◌, arith, add-one, append_assoc}
-use Rattle.std.specs.Prelude.{nat_lt, nat_le, is_some, unwrap_or}
-use Rattle.std.specs.List.{list_all, flat_map, filter_map, cons_option}
+use Rattle.std.proofs.Common.{◌≡◌, ℕ, suc, ◌+◌, ◌*◌, ◌≤◌, Bool, true, false, cond, not, ◌&&◌, ◌==◌, List, [], ◌∷◌, ◌++◌, length, map, fold, None, Result, Ok, Err, refl, sym, ap, ◌∙◌, arith}
+use Rattle.std.specs.Prelude.{nat_lt, nat_le}
+use Rattle.std.specs.List.{list_all, flat_map, cons_option}
 use Rattle.std.proofs.lemmas.Bool.Decides.{nat_tests}
 use Rattle.std.proofs.lemmas.List.{append-nil, length-append, length-map, map_push, map-append}
 use Rattle.std.proofs.lemmas.List.Folds.{list_all-append}
@@ -14,13 +14,13 @@ use Rattle.lattice.specs.declared.grid.Kind.TheVariants.{Square}
 use Rattle.species.specs.Names.{with_name, place_of}
 use Rattle.manifest_read.specs.declared.fault.ManifestFault.{ManifestFault}
 use Rattle.manifest_read.specs.declared.manifest.Manifest.{Manifest}
-use Rattle.manifest_read.specs.Sorts.{SaidRule, LineSort, Seed, Duration, StartRules, RuleLine, EndRules, StartSurface, Row, EndSurface, Formless, is_name, sort_of}
-use Rattle.manifest_read.specs.Stages.{Stage, stage_after}
-use Rattle.manifest_read.specs.Manifest.{Line, stage_of, sorts_of, seed_in, units_in, rule_in, row_in, first_or, names_said, numbered, width_of, has_form, manifest_of_lines, not_built}
-use Rattle.manifest_read.specs.Steps.{Kept, names_fit, cells, onward, refused, rule, with_rule, row, end_row, with_row, said, said_at, by_sort, next}
-use Rattle.manifest_read.proofs.Cells.{AreKept, places-fold}
-use Rattle.manifest_read.proofs.Moves.{Move, move, seeds_in, all_units_in, rules_in, rows_in, Before}
-use Rattle.manifest_read.proofs.Numbers.{species_in, species-rules, species-sites, species-row, species-rule, rules-fold, names_fit-is, room, with_cells, cells-is}
+use Rattle.manifest_read.specs.Sorts.{SaidRule, LineSort, is_name}
+use Rattle.manifest_read.specs.Stages.{Stage}
+use Rattle.manifest_read.specs.Manifest.{Line, stage_of, sorts_of, seed_in, units_in, rule_in, row_in, first_or, names_said, numbered, width_of, not_built}
+use Rattle.manifest_read.specs.Steps.{Kept, names_fit, cells, onward, refused, rule, with_rule, row, end_row, with_row}
+use Rattle.manifest_read.proofs.Cells.{places-fold}
+use Rattle.manifest_read.proofs.Moves.{seeds_in, all_units_in, rules_in, rows_in}
+use Rattle.manifest_read.proofs.Numbers.{species_in, species-rules, species-sites, species-row, species-rule, rules-fold, names_fit-is, with_cells, cells-is}
 
 -- the sites of rows
 abbrev pub sites_in : List (List (List ℕ)) → List (List ℕ)

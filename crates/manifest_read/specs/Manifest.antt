@@ -7,13 +7,12 @@ use Rattle.surf_text.specs.Lines.{lines_of}
 use Rattle.species.specs.Names.{with_name, place_of}
 use Rattle.surf_kinds.specs.declared.rule.Rule.{Rule}
 use Rattle.surf_kinds.specs.declared.rule.Rule.TheVariants.{One, Two}
-use Rattle.surf_kinds.specs.declared.site.SpeciesId.{SpeciesId}
 use Rattle.lattice.specs.declared.grid.Kind.TheVariants.{Square}
 use Rattle.manifest_read.specs.declared.fault.ManifestKind.TheVariants.{NotBuilt}
 use Rattle.manifest_read.specs.declared.fault.ManifestFault.{ManifestFault}
 use Rattle.manifest_read.specs.declared.manifest.Manifest.{Manifest}
-use Rattle.manifest_read.specs.Sorts.{SaidRule, SaidOne, SaidTwo, LineSort, Seed, Duration, StartRules, RuleLine, EndRules, StartSurface, Row, EndSurface, Formless, sort_of}
-use Rattle.manifest_read.specs.Stages.{Stage, Start, AfterSeed, AfterDuration, InRules, AfterRules, InSurface, InRows, Ended, stage_after}
+use Rattle.manifest_read.specs.Sorts.{SaidRule, SaidOne, SaidTwo, LineSort, Seed, Duration, RuleLine, Row, sort_of}
+use Rattle.manifest_read.specs.Stages.{Stage, Start, Ended, stage_after}
 
 abbrev pub Line : Type 0
 Line = List ℕ

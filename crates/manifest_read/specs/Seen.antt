@@ -6,7 +6,7 @@ use Rattle.manifest_read.specs.declared.sort.RuleText.{RuleText}
 use Rattle.manifest_read.specs.declared.sort.RuleText.TheVariants as texts
 use Rattle.manifest_read.specs.declared.sort.Sort.{Sort}
 use Rattle.manifest_read.specs.declared.sort.Sort.TheVariants as code
-use Rattle.manifest_read.specs.Sorts.{SaidRule, SaidOne, SaidTwo, LineSort, Seed, Duration, StartRules, RuleLine, EndRules, StartSurface, Row, EndSurface, is_name, row_of, pieces_of, rate_of}
+use Rattle.manifest_read.specs.Sorts.{SaidRule, SaidOne, SaidTwo, LineSort, Seed, Duration, StartRules, RuleLine, EndRules, StartSurface, EndSurface, is_name, row_of, pieces_of, rate_of}
 
 abbrev pub said_by : RuleText → SaidRule
 said_by (texts.One rate a c) = SaidOne rate.value a.now c.now

@@ -1,6 +1,5 @@
-use Rattle.std.proofs.Common.{◌≡◌, ℕ, List, sym, ap, ◌∙◌}
+use Rattle.std.proofs.Common.{◌≡◌, ℕ, List, sym, ◌∙◌}
 use Rattle.surf_kinds.specs.Rates.{Fraction}
-use Rattle.surf_kinds.specs.declared.rule.Rule.{Rule}
 use Rattle.surf_kinds.specs.declared.rule.Rule.TheVariants.{Two}
 use Rattle.surf_kinds.specs.declared.site.SpeciesId.{SpeciesId}
 use Rattle.species.specs.Names.{with_name, place_of}

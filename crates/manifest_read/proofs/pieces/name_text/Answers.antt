@@ -1,4 +1,4 @@
-use Rattle.std.proofs.Common.{sym, ◌∙◌}
+use Rattle.std.proofs.Common.{sym}
 use Rattle.manifest_read.proofs.Cuts.{name-IsUtf8}
 use Rattle.manifest_read.proofs.pieces.name_text.Goals as goal
 

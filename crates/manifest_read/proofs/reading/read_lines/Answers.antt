@@ -1,6 +1,6 @@
-use Rattle.std.proofs.Common.{◌≡◌, ◌+◌, length, arith, refl, ap, subst, ◌∙◌}
+use Rattle.std.proofs.Common.{length, arith, refl, ap, subst}
 use Rattle.manifest_read.specs.Steps.{kept, Gives}
-use Rattle.manifest_read.proofs.Outcomes.{begins, goes-on, fails, ends, reads-sized, reads-count, reads-sound, lines-few}
+use Rattle.manifest_read.proofs.Outcomes.{goes-on, fails, ends, reads-sized, reads-count, reads-sound, lines-few}
 use Rattle.manifest_read.proofs.reading.read_lines.Goals as goal
 
 pub take-requires-clause-rows : goal.take-requires-clause-rows

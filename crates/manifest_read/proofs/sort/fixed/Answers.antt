@@ -1,4 +1,4 @@
-use Rattle.std.proofs.Common.{◌≡◌, List, ℕ, [], ◌∷◌, Option, Some, None, sym, ap, ◌∙◌}
+use Rattle.std.proofs.Common.{◌≡◌, List, ℕ, [], ◌∷◌, sym, ap, ◌∙◌}
 use Rattle.manifest_read.specs.Sorts.{pieces_of, fixed_of}
 use Rattle.manifest_read.proofs.Cuts.{two-from}
 use Rattle.manifest_read.proofs.sort.fixed.Goals as goal

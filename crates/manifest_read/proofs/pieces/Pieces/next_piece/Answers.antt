@@ -1,6 +1,4 @@
-use Rattle.std.proofs.Common.{◌≡◌, List, ℕ, [], ◌∷◌, Option, Some, None, sym, ap, ◌∙◌}
-use Rattle.std.specs.Option.{option_map_or}
-use Rattle.surf_text.specs.Cuts.{cut_at}
+use Rattle.std.proofs.Common.{◌≡◌, sym, ap, ◌∙◌}
 use Rattle.manifest_read.specs.Sorts.{pieces_of}
 use Rattle.manifest_read.proofs.Cuts.{pieces-cut, by_cut}
 use Rattle.manifest_read.proofs.pieces.Pieces.next_piece.Goals as goal

@@ -1,4 +1,4 @@
-use Rattle.std.proofs.Common.{◌≡◌, ◌+◌, ℕ, List, [], ◌∷◌, length, arith, refl, ap, sym, ◌∙◌}
+use Rattle.std.proofs.Common.{length, arith, refl, ap}
 use Rattle.std.proofs.lemmas.Result.{err_from_is_err_and}
 use Rattle.manifest_read.specs.Steps.{kept, cells}
 use Rattle.manifest_read.proofs.Runs.{cells-more, cells-fail, cells-done, length-pieces}

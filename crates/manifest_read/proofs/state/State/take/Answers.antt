@@ -1,6 +1,5 @@
-use Rattle.std.proofs.Common.{◌≡◌, sym, ap, subst, ◌∙◌}
-use Rattle.manifest_read.specs.Seen.{seen}
-use Rattle.manifest_read.specs.Steps.{kept, Takes, stage_by, row_sort}
+use Rattle.std.proofs.Common.{sym, subst}
+use Rattle.manifest_read.specs.Steps.{kept, Takes, stage_by}
 use Rattle.manifest_read.proofs.Runs.{next-row}
 use Rattle.manifest_read.proofs.state.State.take.Goals as goal
 
