@@ -1,0 +1,5 @@
+pub mod Order
+pub mod Orders
+pub mod Views
+pub mod Seen
+pub mod Leasts

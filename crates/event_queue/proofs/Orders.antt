@@ -1,0 +1,83 @@
+-- The order of entries, and the steps of the heap in this order.
+use Rattle.std.proofs.Common.{◌≡◌, ℕ, ◌+◌, ◌*◌, ◌<◌, ◌≤◌, Bool, true, false, ltb, eqb, ◌||◌, ◌&&◌, List, arith}
+use Rattle.std.specs.Cmp.{IsStrictWeakOrder}
+use Rattle.std.specs.List.{SwappedAt}
+use Rattle.std.proofs.lemmas.Bool.Decides.{nat_tests}
+use Rattle.std.proofs.lemmas.List.Edits.{Swapped}
+use Rattle.surf_kinds.specs.Keys.{is_before}
+use Rattle.surf_kinds.specs.declared.event.Event.{Event}
+use Rattle.event_queue.specs.declared.entry.Entry.{Entry}
+use Rattle.event_queue.specs.Heap.{precedes, event_of, entry_at, nothing, parent, IsHeap, IsHeapBut, IsBelowParent}
+use Rattle.event_queue.proofs.Order.{rise_step, sink_step, sink_done, kids_after, heap_but, heap_top}
+
+abbrev before : ℕ → ℕ → ℕ → ℕ → Bool
+before t o u p = ltb t u || (eqb t u && ltb o p)
+
+before_one_way : (t o u p : ℕ) → before t o u p ≡ true → before u p t o ≡ false
+before_one_way t o u p h = grind (arith, nat_tests)
+
+before_chain : (t o u p v q : ℕ) → before t o u p ≡ false → before u p v q ≡ false → before t o v q ≡ false
+before_chain t o u p v q h k = grind (arith, nat_tests)
+
+pub precedes_order : IsStrictWeakOrder precedes
+precedes_order = record {
+  one_way = λ a b h. before_one_way a.time a.offset b.time b.offset h;
+  chain = λ a b c h k. before_chain a.time a.offset b.time b.offset c.time c.offset h k;
+}
+
+before_added : (first t o u p : ℕ) → before t (first + o) u (first + p) ≡ before t o u p
+before_added first t o u p = grind (arith, nat_tests)
+
+pub is_before-event_of : (first : ℕ) (a b : Entry) → is_before (event_of first a) (event_of first b) ≡ precedes a b
+is_before-event_of first a b = before_added first a.time a.offset b.time b.offset
+
+is_before_one_way : (e f : Event) → is_before e f ≡ true → is_before f e ≡ false
+is_before_one_way e f h = before_one_way e.time e.place.0 f.time f.place.0 h
+
+pub is_before_chain : (e f g : Event) → is_before e f ≡ false → is_before f g ≡ false → is_before e g ≡ false
+is_before_chain e f g h k = before_chain e.time e.place.0 f.time f.place.0 g.time g.place.0 h k
+
+pub is_before_order : IsStrictWeakOrder is_before
+is_before_order = record { one_way = is_before_one_way; chain = is_before_chain }
+
+same_key : (t o u p : ℕ) → before t o u p ≡ false → before u p t o ≡ false → o ≡ p
+same_key t o u p h k = grind (arith, nat_tests)
+
+-- neither is before the other: they are at one place
+pub same_place : (e f : Event) → is_before e f ≡ false → is_before f e ≡ false → e.place.0 ≡ f.place.0
+same_place e f h k = same_key e.time e.place.0 f.time f.place.0 h k
+
+at_swapped : (xs ys : List Entry) (i j : ℕ) → SwappedAt xs ys i j → Swapped (entry_at xs) (entry_at ys) i j
+at_swapped xs ys i j sw = (sw.0 nothing, sw.1 nothing, λ k a b. sw.2 k nothing a b)
+
+pub risen : (xs ys : List Entry) (n i : ℕ) → SwappedAt xs ys i (parent i) → 0 < i → i < n → IsHeapBut xs n i → IsHeapBut ys n (parent i)
+risen xs ys n i sw pos below h =
+    let r = rise_step precedes precedes_order (entry_at xs) (entry_at ys) n i (at_swapped xs ys i (parent i) sw) pos below h.others h.over in
+    record { others = r.0; over = r.1 }
+
+pub sunk : (xs ys : List Entry) (n i c : ℕ) → SwappedAt xs ys i c → parent c ≡ i → 0 < c → c < n → IsHeapBut xs n i
+    → precedes (entry_at xs c) (entry_at xs i) ≡ true → ((s : ℕ) → 0 < s → s < n → parent s ≡ i → precedes (entry_at xs s) (entry_at xs c) ≡ false)
+    → IsHeapBut ys n c × IsBelowParent ys c
+sunk xs ys n i c sw pc cp cn h before least =
+    let r = sink_step precedes precedes_order (entry_at xs) (entry_at ys) n i c (at_swapped xs ys i c sw) pc cp cn h.others h.over before least in
+    (record { others = r.0; over = r.1 }, λ _. r.2)
+
+pub settled : (xs : List Entry) (n i c : ℕ) → IsHeapBut xs n i → IsBelowParent xs i
+    → precedes (entry_at xs c) (entry_at xs i) ≡ false → ((s : ℕ) → 0 < s → s < n → parent s ≡ i → precedes (entry_at xs s) (entry_at xs c) ≡ false) → IsHeap xs n
+settled xs n i c h above not least = sink_done precedes precedes_order (entry_at xs) n i h.others above (kids_after precedes precedes_order (entry_at xs) n i c not least)
+
+pub settled_low : (xs : List Entry) (n i : ℕ) → IsHeapBut xs n i → IsBelowParent xs i → n ≤ i * 4 + 1 → IsHeap xs n
+settled_low xs n i h above low = sink_done precedes precedes_order (entry_at xs) n i h.others above (λ j jp jn pj. absurd (omega arith))
+
+pub but_at : (xs ys : List Entry) (n m i : ℕ) → IsHeap xs n → ((k : ℕ) → k < m → (k ≡ i → ⊥) → (k < n) × (entry_at ys k ≡ entry_at xs k)) → IsHeapBut ys m i
+but_at xs ys n m i h same =
+    let r = heap_but precedes precedes_order (entry_at xs) (entry_at ys) n m i h same in
+    record { others = r.0; over = r.1 }
+
+pub top_first : (xs : List Entry) (n i : ℕ) → IsHeap xs n → i < n → precedes (entry_at xs i) (entry_at xs 0) ≡ false
+top_first xs n i h l = heap_top precedes precedes_order (entry_at xs) n h i i (omega arith) l
+
+-- of the entries below i that one that is least among the four positions
+pub least_below : (xs : List Entry) (n i c : ℕ) → ((k : ℕ) → i * 4 + 1 ≤ k → k < i * 4 + 1 + 4 → k < n → precedes (entry_at xs k) (entry_at xs c) ≡ false)
+    → (s : ℕ) → 0 < s → s < n → parent s ≡ i → precedes (entry_at xs s) (entry_at xs c) ≡ false
+least_below xs n i c least s sp sn ps = least s (omega arith) (omega arith) sn
