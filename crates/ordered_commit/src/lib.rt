@@ -7,8 +7,10 @@
 //! It stands on `surf_kinds` for the events and their order, and on std's sort.
 #![tactic(auto)]
 
+mod merged;
 mod tally;
 
+pub use merged::merge;
 pub use tally::{EventLimit, Tally};
 
 #[cfg(test)]
