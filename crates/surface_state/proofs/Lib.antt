@@ -1,3 +1,4 @@
 pub mod Columns
 pub mod Undoing
 pub mod Products
+pub mod Kept

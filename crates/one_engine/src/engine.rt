@@ -1,0 +1,80 @@
+//! The engine: a surface with the queue of its next events.
+
+ghost use Rattle.std.specs.Prelude.{◌≡◌, ◌^◌, ◌≤◌, ◌*◌, All, IfOk, MatchOption};
+ghost use Rattle.plan.specs.History.{due};
+ghost use Rattle.one_engine.specs.State.{fired, LeavesWithin};
+
+use crate::entries::{all_entries, refresh};
+use event_queue::Queue;
+use plan::Plan;
+use std::alloc::Global;
+use std::marker::Model;
+use surf_kinds::{Event, NoMemory};
+use surface_state::Surface;
+
+/// A surface that runs by the rules of a plan.
+#[derive(Drop)]
+pub struct Engine {
+    plan: Plan,
+    surface: Surface,
+    queue: Queue,
+}
+
+impl Model for Engine {
+    ghost use Rattle.one_engine.specs.State.{State};
+    ghost use Rattle.one_engine.specs.Running.{IsRunning};
+
+    ghost Value = { State };
+
+    ghost view = { λ e. record { network = e.plan; surface = e.surface } };
+
+    ghost invariant = { λ e. IsRunning e.plan e.surface e.queue };
+}
+
+impl Engine {
+    /// An engine over a surface on which no site was rewritten more than seven times a tick, up to tick 10^15. The
+    /// other calls take no memory.
+    pub fn new(alloc: Global, plan: Plan, surface: Surface) -> Result<Engine, NoMemory>
+        requires lattice { surface.lattice ≡ plan.lattice }
+        requires species { All (LeavesWithin surface.kinds) plan.rules }
+        requires versions { All (λ s. s.version ≤ 7 * s.last) surface.sites }
+        requires lasts { All (λ s. s.last ≤ 10 ^ 15) surface.sites }
+        ensures { IfOk result (λ e. e ≡ record { network = plan; surface = surface }) }
+    {
+        let queue = match all_entries(alloc, &plan, &surface) {
+            Ok(queue) => queue,
+            Err(NoMemory) => return Err(NoMemory),
+        };
+        Ok(Engine {
+            plan,
+            surface,
+            queue,
+        })
+    }
+
+    /// Fires the next event of the surface, where its time is at most `until`, and gives it. None where there is
+    /// no event or it is later; then nothing changes. The cost goes with the logarithm of the number of places.
+    pub fn fire(&mut self, until: u64) -> Option<Event>
+        requires { until ≤ 10 ^ 15 }
+        ensures due { result ≡ due self.old.network.lattice self.old.network.seed self.old.network.rules until self.old.surface.sites }
+        ensures state { MatchOption result (self.new ≡ self.old) (λ e. self.new ≡ fired self.old e) }
+    {
+        match self.queue.least() {
+            Some(event) if event.time <= until => {
+                let products = self.plan.products(event.channel);
+                self.surface.apply(event, products);
+                refresh(&self.plan, &self.surface, &mut self.queue, event.place);
+                Some(event)
+            }
+            _ => None,
+        }
+    }
+
+    /// What stands at the sites, and the counts of species.
+    pub fn surface(&self) -> &Surface
+        ensures surface { result.now ≡ self.now.surface }
+        ensures lattice { self.now.surface.lattice ≡ self.now.network.lattice }
+    {
+        &self.surface
+    }
+}
