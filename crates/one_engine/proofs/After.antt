@@ -28,9 +28,6 @@ open_site s h = record { version = omega (arith, h.version, h.last); last = h.la
 pub open_all : (sites : List SiteState) → All IsSettled sites → All IsOpen sites
 open_all sites h k d inside = open_site (get_or sites k d) (h k d inside)
 
-pub settled_all : (sites : List SiteState) → All (λ s. s.version ≤ 7 * s.last) sites → All (λ s. s.last ≤ 10 ^ 15) sites → All IsSettled sites
-settled_all sites v l k d inside = record { version = v k d inside; last = l k d inside }
-
 -- the event comes after the last rewriting of each of its sites
 earlier_at : (sites : List SiteState) (p : Sites) (time k : ℕ) (old : SiteState) → IsEarlier sites time (Some p.first) → IsEarlier sites time p.second → IsAmong k p → slice_get sites k ≡ Some old → old.last < time
 earlier_at sites p time k old first second (inl here) at =

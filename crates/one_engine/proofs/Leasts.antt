@@ -1,6 +1,5 @@
 -- The least event of a queue that keeps the next event of every place is the next event of the surface.
-use Rattle.std.proofs.Common.{◌≡◌, ℕ, zero, suc, ◌-◌, ◌*◌, ◌<◌, List, Option, Some, None, refl, sym, ap, ◌∙◌, arith, slice_index_or, true, false, inl, inr}
-use Rattle.std.specs.Prelude.{MatchOption}
+use Rattle.std.proofs.Common.{◌≡◌, ℕ, zero, suc, ◌-◌, ◌*◌, ◌<◌, List, Some, None, refl, sym, ap, ◌∙◌, arith, slice_index_or, true, false, inl, inr}
 use Rattle.surf_kinds.specs.declared.site.SiteState.{SiteState}
 use Rattle.surf_kinds.specs.declared.event.Event.{Event}
 use Rattle.surf_kinds.specs.Keys.{earlier, is_before}
@@ -51,8 +50,3 @@ least_some n sites q e o right h =
 
 pub least_none : (n : Network) (sites : List SiteState) (q : Kept) → ((place : ℕ) → place < 8 * (n.lattice.rows * n.lattice.cols) → IsRight n sites q place) → KeepsNone q → None ≡ least n.lattice n.seed n.rules sites
 least_none n sites q right h = sym (none_upto n sites (8 * (n.lattice.rows * n.lattice.cols)) (λ place lt. sym (right place lt) ∙ h place))
-
--- what the queue gives is the next event of the surface
-pub least_is : (n : Network) (sites : List SiteState) (q : Kept) (o : Option Event) → IsOver n.lattice q → ((place : ℕ) → place < 8 * (n.lattice.rows * n.lattice.cols) → IsRight n sites q place) → MatchOption o (KeepsNone q) (λ e. IsLeast q e) → o ≡ least n.lattice n.seed n.rules sites
-least_is n sites q None over right h = least_none n sites q right h
-least_is n sites q (Some e) over right h = least_some n sites q e over right h

@@ -1,7 +1,7 @@
 -- The entries of the queue, one set after the other.
 use Rattle.std.proofs.Common.{◌≡◌, ℕ, ◌+◌, ◌-◌, ◌*◌, ◌<◌, ◌≤◌, List, length, Option, Some, None, sym, ap, ◌∙◌, subst, arith, set, get_or, slice_index_or, inl, inr}
 use Rattle.std.specs.Prelude.{slice_get, All, IfSome}
-use Rattle.std.proofs.lemmas.List.{get_or-set_same, get_or-set_other, length-set, get_or_default}
+use Rattle.std.proofs.lemmas.List.{get_or-set_same, get_or_default}
 use Rattle.std.proofs.lemmas.Option.{same_Some, slice_get_within, slice_get-get_or}
 use Rattle.std.proofs.lemmas.Bool.Decides.{eqb_tells}
 use Rattle.surf_kinds.specs.declared.rule.Rule.{Rule}
@@ -34,26 +34,12 @@ pub place_is : (l : Shape) (seed : ℕ) (rules : List Rule) (sites : List SiteSt
 place_is l seed rules sites place None h = tt
 place_is l seed rules sites place (Some e) h = ap (λ n. record { 0 = n }) (of_place l seed rules sites place.0 e (sym h))
 
-pub over_refreshed : (l : Shape) (q : Kept) (i : ℕ) (e : Option Event) → IsOver l q → IsOver l (record { first = q.first; events = set q.events i e })
-over_refreshed l q i e o = record { first = o.first; count = length-set q.events i e ∙ o.count }
-
 -- the place has its next event
 pub right_here : (n : Network) (sites : List SiteState) (q : Kept) (place : ℕ) → IsOver n.lattice q → place < 8 * (n.lattice.rows * n.lattice.cols) → IsRight n sites (refreshed n sites q place) place
 right_here n sites q place o h =
     let at : place - q.first ≡ place = omega (arith, o.first) in
     ap (λ i. slice_index_or (set q.events i (next n.lattice n.seed n.rules sites place)) place None) at
     ∙ get_or-set_same q.events place (next n.lattice n.seed n.rules sites place) None (omega (arith, h, o.count))
-
--- and what was right is so still
-pub right_still : (n : Network) (sites : List SiteState) (q : Kept) (place k : ℕ) → IsOver n.lattice q → place < 8 * (n.lattice.rows * n.lattice.cols) → IsRight n sites q k → IsRight n sites (refreshed n sites q place) k
-right_still n sites q place k o h r =
-    elim (eqb_tells k place) [
-      | inl p ↦ subst (λ i. IsRight n sites (refreshed n sites q place) i) (sym p.1) (right_here n sites q place o h)
-      | inr p ↦
-          let at : place - q.first ≡ place = omega (arith, o.first) in
-          ap (λ i. slice_index_or (set q.events i (next n.lattice n.seed n.rules sites place)) k None) at
-          ∙ (get_or-set_other q.events place k (next n.lattice n.seed n.rules sites place) None p.1 ∙ r)
-    ]
 
 -- each place in the list of a site's places is one of the lattice
 pub listed_below : (l : Shape) (s : ℕ) (places : List Place) (k : ℕ) → ArePlacesOf l s places → k < length places → number_at places k < 8 * (l.rows * l.cols)
