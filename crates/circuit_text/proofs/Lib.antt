@@ -1,0 +1,16 @@
+pub mod NetValues
+pub mod NameLists
+pub mod Counts
+pub mod NameTexts
+pub mod WordCuts
+pub mod Grows
+pub mod Runs
+pub mod FormedLines
+pub mod Laws
+pub mod Known
+pub mod Joined
+pub mod Lines
+pub mod Facts
+pub mod Whole
+pub mod Sizes
+pub mod OutputNumbers
