@@ -4,7 +4,7 @@ use Prim.Native.Nat.{◌∣◌}
 use Rattle.std.specs.Int.{IsGcd}
 use Rattle.std.proofs.lemmas.Bool.Decides.{nat_tests}
 use Rattle.std.proofs.lemmas.Nat.Gcd.{le_from_IsGcd, dvd_of_mod-eq-zero, mod-eq-zero_of_dvd, le_of_dvd}
-use Rattle.std.proofs.Math.Nat.{eq-zero_of_zero-dvd, pow-le-pow_right, div-mul_cancel, mul-dvd-mul_right, dvd_of_mul-dvd-mul_right, one-dvd}
+use Rattle.std.proofs.Math.Nat.{eq-zero_of_zero-dvd, pow-le-pow_right, mul-le-mul_left, div-mul_cancel, mul-dvd-mul_right, dvd_of_mul-dvd-mul_right, one-dvd}
 use Rattle.std.specs.Prelude.{◌^◌}
 use Rattle.rates.specs.Rates.{gcd_below, gcd_of}
 
@@ -55,6 +55,13 @@ gcd_of-is a b g h p =
 
 pub power_positive : (k : ℕ) → 0 < 10 ^ k
 power_positive k = let h : 10 ^ 0 ≤ 10 ^ k = pow-le-pow_right {n = 10} (lit≤ tt) {i = 0} {j = k} (omega arith) in omega (arith, h)
+
+-- digits times a power of an exponent of at most 9
+pub small_product : (digits k : ℕ) → digits < 10 ^ 18 → k ≤ 9 → digits * 10 ^ k < 10 ^ 27
+small_product digits k h l =
+    let power : 10 ^ k ≤ 10 ^ 9 = pow-le-pow_right {n = 10} (lit≤ tt) {i = k} {j = 9} l in
+    let product : digits * 10 ^ k ≤ digits * 10 ^ 9 = mul-le-mul_left digits power in
+    omega (arith, product)
 
 pub power_at_most : (k : ℕ) → k ≤ 27 → 10 ^ k ≤ 10 ^ 27
 power_at_most k h = pow-le-pow_right {n = 10} (lit≤ tt) {i = k} {j = 27} h

@@ -15,9 +15,9 @@ const LARGEST: u128 = 1_000_000_000;
 
 /// A fraction that need not be in lowest terms.
 #[derive(Clone, Copy)]
-struct Quotient {
-    numerator: u128,
-    denominator: u128,
+pub(crate) struct Quotient {
+    pub(crate) numerator: u128,
+    pub(crate) denominator: u128,
 }
 
 fn common_divisor(a: u128, b: u128) -> u128
@@ -62,10 +62,12 @@ fn power(k: u32) -> u128
     10u128.pow(k)
 }
 
-fn scale(dec: Dec) -> Quotient
+/// The value of a decimal.
+pub(crate) fn scale(dec: Dec) -> Quotient
     requires { IsSmall dec }
     ensures value { record { p = result.numerator; q = result.denominator } ≡ scaled dec.digits dec.exp }
     ensures positive { 0 < result.denominator }
+    ensures range { result.numerator < 10 ^ 27 }
 {
     let digits = u128::from(dec.digits);
     let size = dec.exp.unsigned_abs();

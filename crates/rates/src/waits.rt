@@ -8,7 +8,7 @@ use fixed_log::energy;
 use surf_kinds::Rate;
 
 /// Ticks in a unit of time.
-const TICKS: u64 = 1_000_000;
+pub(crate) const TICKS: u64 = 1_000_000;
 
 /// The wait of a rate at a drawn word, in ticks. `None` for the rate 0, at which nothing ever comes.
 #[inline]

@@ -1,0 +1,6 @@
+mod Steps
+mod Runs
+mod Fits
+mod FirstWrongs
+mod Readings
+mod Ranges

@@ -1,0 +1,104 @@
+-- What the value of one more option does to the values that are kept.
+use Rattle.std.proofs.Common.{◌≡◌, ℕ, ◌+◌, Bool, true, false, ◌||◌, List, ◌∷◌, Option, Some, None, is_some, cond, refl, subst}
+use Rattle.std.specs.List.{list_all}
+use Rattle.std.specs.Option.{option_map, option_or}
+use Rattle.surface_words.specs.declared.given.Given.{Given}
+use Rattle.surface_words.specs.declared.options.OptionName.{OptionName}
+use Rattle.surface_words.specs.declared.options.OptionName.TheVariants.{Workers, Seed, Until, Samples, Limit, Inputs}
+use Rattle.surface_words.specs.Commands.{same_option, number_of, is_bit, is_allowed}
+use Rattle.surface_words.specs.Accepted.{Pair}
+use Rattle.surface_words.specs.Reading.{number_given, index_given}
+use Rattle.surface_words.specs.Given.{has, with_value}
+
+-- the values with those that pairs give, where the first pair's value has the index `at`
+abbrev pub merged : Given → ℕ → List Pair → Given
+merged given at pairs = record {
+  workers = option_or given.workers (number_given Workers pairs);
+  seed = option_or given.seed (number_given Seed pairs);
+  until = option_or given.until (number_given Until pairs);
+  samples = option_or given.samples (number_given Samples pairs);
+  limit = option_or given.limit (number_given Limit pairs);
+  inputs = option_or given.inputs (index_given Inputs at pairs);
+}
+
+abbrev HasMore : Given → OptionName → Given → OptionName → Type 0
+HasMore old option new other = has new other ≡ (same_option other option || has old other)
+
+-- the new values are the old ones with that of one more option
+pub record IsStep (old : Given) (option : OptionName) (value : List ℕ) (index : ℕ) (new : Given) : Type 0 where
+  pub has_more : (other : OptionName) → HasMore old option new other
+  pub same_rest : has old option ≡ false → (pairs : List Pair) → merged new (index + 2) pairs ≡ merged old index ((record { option = option; value = value }) ∷ pairs)
+
+none_where : {T : Type 0} (o : Option T) → is_some o ≡ false → o ≡ None
+none_where None h = refl
+none_where (Some x) h = absurd (cc)
+
+-- what holds of the values with any number holds of those that were made of one
+by_number : (f : ℕ → Given) (number : Option ℕ) (new : Given) (P : Given → Type 0) → ((n : ℕ) → number ≡ Some n → P (f n)) → option_map f number ≡ Some new → P new
+by_number f None new P g h = absurd (cc)
+by_number f (Some n) new P g h = let e : f n ≡ new = cc in subst P e (g n refl)
+
+step_workers : (old : Given) (value : List ℕ) (index n : ℕ) → number_of Workers value ≡ Some n → IsStep old Workers value index (record old { workers = Some n })
+step_workers old value index n e = record {
+  has_more = λ other. elim other as (HasMore old Workers (record old { workers = Some n })) [ Workers ↦ refl | _ ↦ refl ];
+  same_rest = λ h pairs. let none = none_where old.workers h in rw (none, e) refl;
+}
+
+step_seed : (old : Given) (value : List ℕ) (index n : ℕ) → number_of Seed value ≡ Some n → IsStep old Seed value index (record old { seed = Some n })
+step_seed old value index n e = record {
+  has_more = λ other. elim other as (HasMore old Seed (record old { seed = Some n })) [ Seed ↦ refl | _ ↦ refl ];
+  same_rest = λ h pairs. let none = none_where old.seed h in rw (none, e) refl;
+}
+
+step_until : (old : Given) (value : List ℕ) (index n : ℕ) → number_of Until value ≡ Some n → IsStep old Until value index (record old { until = Some n })
+step_until old value index n e = record {
+  has_more = λ other. elim other as (HasMore old Until (record old { until = Some n })) [ Until ↦ refl | _ ↦ refl ];
+  same_rest = λ h pairs. let none = none_where old.until h in rw (none, e) refl;
+}
+
+step_samples : (old : Given) (value : List ℕ) (index n : ℕ) → number_of Samples value ≡ Some n → IsStep old Samples value index (record old { samples = Some n })
+step_samples old value index n e = record {
+  has_more = λ other. elim other as (HasMore old Samples (record old { samples = Some n })) [ Samples ↦ refl | _ ↦ refl ];
+  same_rest = λ h pairs. let none = none_where old.samples h in rw (none, e) refl;
+}
+
+step_limit : (old : Given) (value : List ℕ) (index n : ℕ) → number_of Limit value ≡ Some n → IsStep old Limit value index (record old { limit = Some n })
+step_limit old value index n e = record {
+  has_more = λ other. elim other as (HasMore old Limit (record old { limit = Some n })) [ Limit ↦ refl | _ ↦ refl ];
+  same_rest = λ h pairs. let none = none_where old.limit h in rw (none, e) refl;
+}
+
+step_inputs : (old : Given) (value : List ℕ) (index : ℕ) → IsStep old Inputs value index (record old { inputs = Some index })
+step_inputs old value index = record {
+  has_more = λ other. elim other as (HasMore old Inputs (record old { inputs = Some index })) [ Inputs ↦ refl | _ ↦ refl ];
+  same_rest = λ h pairs. let none = none_where old.inputs h in rw none refl;
+}
+
+by_test : (b : Bool) (made new : Given) → cond b (Some made) None ≡ Some new → made ≡ new
+by_test true made new h = cc
+by_test false made new h = absurd (cc)
+
+pub step_is : (old : Given) (option : OptionName) (value : List ℕ) (index : ℕ) (new : Given) → with_value old option value index ≡ Some new → IsStep old option value index new
+step_is old Workers value index new h = by_number (λ n. record old { workers = Some n }) (number_of Workers value) new (IsStep old Workers value index) (step_workers old value index) h
+step_is old Seed value index new h = by_number (λ n. record old { seed = Some n }) (number_of Seed value) new (IsStep old Seed value index) (step_seed old value index) h
+step_is old Until value index new h = by_number (λ n. record old { until = Some n }) (number_of Until value) new (IsStep old Until value index) (step_until old value index) h
+step_is old Samples value index new h = by_number (λ n. record old { samples = Some n }) (number_of Samples value) new (IsStep old Samples value index) (step_samples old value index) h
+step_is old Limit value index new h = by_number (λ n. record old { limit = Some n }) (number_of Limit value) new (IsStep old Limit value index) (step_limit old value index) h
+step_is old Inputs value index new h = subst (IsStep old Inputs value index) (by_test (list_all is_bit value) (record old { inputs = Some index }) new h) (step_inputs old value index)
+
+is_some_map : (f : ℕ → Given) (number : Option ℕ) → is_some (option_map f number) ≡ is_some number
+is_some_map f None = refl
+is_some_map f (Some n) = refl
+
+is_some_test : (b : Bool) (made : Given) → is_some (cond b (Some made) None) ≡ b
+is_some_test true made = refl
+is_some_test false made = refl
+
+-- a value is kept exactly where it is allowed
+pub allowed_is : (old : Given) (option : OptionName) (value : List ℕ) (index : ℕ) → is_some (with_value old option value index) ≡ is_allowed option value
+allowed_is old Workers value index = is_some_map (λ n. record old { workers = Some n }) (number_of Workers value)
+allowed_is old Seed value index = is_some_map (λ n. record old { seed = Some n }) (number_of Seed value)
+allowed_is old Until value index = is_some_map (λ n. record old { until = Some n }) (number_of Until value)
+allowed_is old Samples value index = is_some_map (λ n. record old { samples = Some n }) (number_of Samples value)
+allowed_is old Limit value index = is_some_map (λ n. record old { limit = Some n }) (number_of Limit value)
+allowed_is old Inputs value index = is_some_test (list_all is_bit value) (record old { inputs = Some index })

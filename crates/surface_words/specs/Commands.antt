@@ -1,0 +1,78 @@
+-- The commands of the programs, their options, and the values of these.
+use Rattle.std.specs.Prelude.{ℕ, Bool, ◌&&◌, ◌||◌, ◌==◌, nat_le, List, [], ◌∷◌, find, Option, Some, None, is_some, if◌then◌else◌, codes}
+use Rattle.std.specs.List.{list_any, list_all}
+use Rattle.std.specs.Option.{option_and_then}
+use Rattle.std.specs.Str.{bytes_eq}
+use Rattle.surf_text.specs.Numbers.{u64_of}
+use Rattle.rates.specs.Durations.{duration_of}
+use Rattle.surface_words.specs.declared.commands.Program.{Program}
+use Rattle.surface_words.specs.declared.commands.Program.TheVariants as program
+use Rattle.surface_words.specs.declared.commands.Command.{Command}
+use Rattle.surface_words.specs.declared.commands.Command.TheVariants.{Check, Print, Run, Value}
+use Rattle.surface_words.specs.declared.options.OptionName.{OptionName}
+use Rattle.surface_words.specs.declared.options.OptionName.TheVariants.{Workers, Seed, Until, Samples, Limit, Inputs}
+
+abbrev pub commands_of : Program → List Command
+commands_of program.Surface = Check ∷ Print ∷ Run ∷ Value ∷ []
+commands_of program.Watch = []
+
+abbrev pub command_text : Command → List ℕ
+command_text Check = codes "check"
+command_text Print = codes "print"
+command_text Run = codes "run"
+command_text Value = codes "value"
+
+-- the command of a program that a word names
+abbrev pub command_of : Program → List ℕ → Option Command
+command_of program word = find (λ command. bytes_eq word (command_text command)) (commands_of program)
+
+abbrev pub option_text : OptionName → List ℕ
+option_text Workers = codes "--workers"
+option_text Seed = codes "--seed"
+option_text Until = codes "--until"
+option_text Samples = codes "--samples"
+option_text Limit = codes "--limit"
+option_text Inputs = codes "--inputs"
+
+abbrev pub all_options : List OptionName
+all_options = Workers ∷ Seed ∷ Until ∷ Samples ∷ Limit ∷ Inputs ∷ []
+
+-- the option that a word names
+abbrev pub option_of : List ℕ → Option OptionName
+option_of word = find (λ option. bytes_eq word (option_text option)) all_options
+
+abbrev pub same_option : OptionName → OptionName → Bool
+same_option a b = bytes_eq (option_text a) (option_text b)
+
+abbrev pub is_among : OptionName → List OptionName → Bool
+is_among option options = list_any (same_option option) options
+
+abbrev pub options_of : Command → List OptionName
+options_of Check = []
+options_of Print = []
+options_of Run = Workers ∷ Seed ∷ Until ∷ Samples ∷ Limit ∷ []
+options_of Value = Inputs ∷ []
+
+abbrev pub has_option : Command → OptionName → Bool
+has_option command option = is_among option (options_of command)
+
+-- a whole number from `least` to `most`
+abbrev pub whole_in : ℕ → ℕ → List ℕ → Option ℕ
+whole_in least most text = option_and_then (λ n. if nat_le least n && nat_le n most then Some n else None) (u64_of text)
+
+-- the number that a value spells for its option
+abbrev pub number_of : OptionName → List ℕ → Option ℕ
+number_of Workers value = whole_in 1 64 value
+number_of Seed value = u64_of value
+number_of Until value = duration_of value
+number_of Samples value = whole_in 0 10000 value
+number_of Limit value = whole_in 0 10000000 value
+number_of Inputs value = None
+
+-- 0 or 1
+abbrev pub is_bit : ℕ → Bool
+is_bit c = c == 48 || c == 49
+
+abbrev pub is_allowed : OptionName → List ℕ → Bool
+is_allowed Inputs value = list_all is_bit value
+is_allowed option value = is_some (number_of option value)

@@ -1,0 +1,57 @@
+-- The values of the options as they are kept while the words are read.
+use Rattle.std.specs.Prelude.{ℕ, Bool, not, ◌&&◌, List, Option, Some, None, is_some, unwrap_or, if◌then◌else◌}
+use Rattle.std.specs.List.{list_all}
+use Rattle.std.specs.Option.{option_map, option_and_then}
+use Rattle.surface_words.specs.declared.commands.Command.{Command}
+use Rattle.surface_words.specs.declared.commands.Command.TheVariants.{Check, Print, Run, Value}
+use Rattle.surface_words.specs.declared.given.Given.{Given}
+use Rattle.surface_words.specs.declared.options.OptionName.{OptionName}
+use Rattle.surface_words.specs.declared.options.OptionName.TheVariants.{Workers, Seed, Until, Samples, Limit, Inputs}
+use Rattle.surface_words.specs.declared.words.Words.{Words}
+use Rattle.surface_words.specs.declared.words.Words.TheVariants as said
+use Rattle.surface_words.specs.Commands.{option_of, has_option, number_of, is_bit}
+use Rattle.surface_words.specs.Accepted.{Pair}
+use Rattle.surface_words.specs.Reading.{number_given, index_given}
+
+abbrev pub nothing : Given
+nothing = record { workers = None; seed = None; until = None; samples = None; limit = None; inputs = None }
+
+abbrev pub has : Given → OptionName → Bool
+has given Workers = is_some given.workers
+has given Seed = is_some given.seed
+has given Until = is_some given.until
+has given Samples = is_some given.samples
+has given Limit = is_some given.limit
+has given Inputs = is_some given.inputs
+
+-- the option that a word names, if the command has it and it has no value yet
+abbrev pub free_option : Command → Given → List ℕ → Option OptionName
+free_option command given name =
+    option_and_then (λ option. if has_option command option && not (has given option) then Some option else None) (option_of name)
+
+-- with the value of one more option, whose word has this index; None where the value isn't allowed
+abbrev pub with_value : Given → OptionName → List ℕ → ℕ → Option Given
+with_value given Workers value index = option_map (λ n. record given { workers = Some n }) (number_of Workers value)
+with_value given Seed value index = option_map (λ n. record given { seed = Some n }) (number_of Seed value)
+with_value given Until value index = option_map (λ n. record given { until = Some n }) (number_of Until value)
+with_value given Samples value index = option_map (λ n. record given { samples = Some n }) (number_of Samples value)
+with_value given Limit value index = option_map (λ n. record given { limit = Some n }) (number_of Limit value)
+with_value given Inputs value index = if list_all is_bit value then Some (record given { inputs = Some index }) else None
+
+-- what the command says with these values
+abbrev pub words_by : Command → Given → Words
+words_by Check given = said.Check
+words_by Print given = said.Print
+words_by Run given = said.Run (unwrap_or given.workers 1) given.seed given.until (unwrap_or given.samples 1) (unwrap_or given.limit 1000000)
+words_by Value given = said.Value given.inputs
+
+-- the values that pairs give, where the first pair's value has the index `at`
+abbrev pub given_by : ℕ → List Pair → Given
+given_by at pairs = record {
+  workers = number_given Workers pairs;
+  seed = number_given Seed pairs;
+  until = number_given Until pairs;
+  samples = number_given Samples pairs;
+  limit = number_given Limit pairs;
+  inputs = index_given Inputs at pairs;
+}

@@ -1,0 +1,5 @@
+pub mod Commands
+pub mod Accepted
+pub mod FirstWrong
+pub mod Reading
+pub mod Given

@@ -1,0 +1,61 @@
+-- What accepted words say.
+use Rattle.std.specs.Prelude.{ℕ, ◌+◌, ◌^◌, ◌<◌, ◌≤◌, List, [], ◌∷◌, Option, Some, None, unwrap_or, IfSome, if◌then◌else◌}
+use Rattle.std.specs.Option.{option_map, option_and_then}
+use Rattle.surface_words.specs.declared.commands.Program.{Program}
+use Rattle.surface_words.specs.declared.commands.Command.{Command}
+use Rattle.surface_words.specs.declared.commands.Command.TheVariants.{Check, Print, Run, Value}
+use Rattle.surface_words.specs.declared.options.OptionName.{OptionName}
+use Rattle.surface_words.specs.declared.options.OptionName.TheVariants.{Workers, Seed, Until, Samples, Limit, Inputs}
+use Rattle.surface_words.specs.declared.words.Words.{Words}
+use Rattle.surface_words.specs.declared.words.Words.TheVariants as said
+use Rattle.surface_words.specs.Commands.{command_of, same_option, number_of}
+use Rattle.surface_words.specs.Accepted.{Pair, pairs_of, is_accepted}
+
+-- the value that the pairs give an option
+abbrev pub value_given : OptionName → List Pair → Option (List ℕ)
+value_given option [] = None
+value_given option (pair ∷ pairs) = if same_option pair.option option then Some pair.value else value_given option pairs
+
+-- the number that the pairs give an option
+abbrev pub number_given : OptionName → List Pair → Option ℕ
+number_given option pairs = option_and_then (number_of option) (value_given option pairs)
+
+-- the index of the word that is an option's value, where the first pair's value has the index `at`
+abbrev pub index_given : OptionName → ℕ → List Pair → Option ℕ
+index_given option at [] = None
+index_given option at (pair ∷ pairs) = if same_option pair.option option then Some at else index_given option (at + 2) pairs
+
+-- what a command with these pairs says, with what is meant where an option isn't given
+abbrev pub words_of : Command → List Pair → Words
+words_of Check pairs = said.Check
+words_of Print pairs = said.Print
+words_of Run pairs = said.Run
+    (unwrap_or (number_given Workers pairs) 1)
+    (number_given Seed pairs)
+    (number_given Until pairs)
+    (unwrap_or (number_given Samples pairs) 1)
+    (unwrap_or (number_given Limit pairs) 1000000)
+words_of Value pairs = said.Value (index_given Inputs 2 pairs)
+
+abbrev pub words_said : Program → List (List ℕ) → Option Words
+words_said program [] = None
+words_said program (word ∷ words) = option_and_then (λ command. option_map (words_of command) (pairs_of words)) (command_of program word)
+
+-- what a list of words says; None exactly where it isn't accepted
+abbrev pub reading : Program → List (List ℕ) → Option Words
+reading program words = if is_accepted program words then words_said program words else None
+
+-- the bounds of a run
+pub record IsRunInRange (workers : ℕ) (until : Option ℕ) (samples limit : ℕ) : Type 0 where
+  pub workers_at_least : 1 ≤ workers
+  pub workers_at_most : workers ≤ 64
+  pub until_at_most : IfSome until (λ ticks. ticks ≤ 10 ^ 15)
+  pub samples_at_most : samples ≤ 10000
+  pub limit_at_most : limit ≤ 10000000
+
+-- the bounds of what a list of so many words says
+abbrev pub IsInRange : ℕ → Words → Type 0
+IsInRange count said.Check = Unit {0}
+IsInRange count said.Print = Unit {0}
+IsInRange count (said.Run workers seed until samples limit) = IsRunInRange workers until samples limit
+IsInRange count (said.Value inputs) = IfSome inputs (λ index. index < count)

@@ -1,0 +1,56 @@
+//! The commands of the programs.
+
+ghost use Rattle.std.specs.Prelude.{◌≡◌};
+ghost use Rattle.surface_words.specs.Commands.{command_of, has_option};
+
+use crate::options::OptionName;
+
+/// A program, which has its own commands.
+#[derive(Clone, Copy, Debug, PartialEq, Eq)]
+pub enum Program {
+    Surface,
+    Watch,
+}
+
+#[derive(Clone, Copy)]
+pub(crate) enum Command {
+    Check,
+    Print,
+    Run,
+    Value,
+}
+
+impl Command {
+    /// The command of the program that a word names.
+    pub(crate) fn read(word: &str, program: Program) -> Option<Command>
+        ensures { result ≡ command_of program word.now }
+    {
+        match program {
+            Program::Surface => match word {
+                "check" => Some(Command::Check),
+                "print" => Some(Command::Print),
+                "run" => Some(Command::Run),
+                "value" => Some(Command::Value),
+                _ => None,
+            },
+            Program::Watch => None,
+        }
+    }
+
+    pub(crate) fn has(self, option: OptionName) -> bool
+        ensures { result ≡ has_option self option }
+    {
+        match self {
+            Command::Check | Command::Print => false,
+            Command::Run => match option {
+                OptionName::Workers
+                | OptionName::Seed
+                | OptionName::Until
+                | OptionName::Samples
+                | OptionName::Limit => true,
+                OptionName::Inputs => false,
+            },
+            Command::Value => matches!(option, OptionName::Inputs),
+        }
+    }
+}

@@ -1,0 +1,53 @@
+//! The options of the commands, and their values.
+
+ghost use Rattle.std.specs.Prelude.{◌≡◌};
+ghost use Rattle.std.specs.List.{list_all};
+ghost use Rattle.surface_words.specs.Commands.{option_of, whole_in, is_bit};
+
+use surf_text::read_u64;
+
+#[derive(Clone, Copy)]
+pub(crate) enum OptionName {
+    Workers,
+    Seed,
+    Until,
+    Samples,
+    Limit,
+    Inputs,
+}
+
+impl OptionName {
+    /// The option that a word names.
+    pub(crate) fn read(word: &str) -> Option<OptionName>
+        ensures { result ≡ option_of word.now }
+    {
+        match word {
+            "--workers" => Some(OptionName::Workers),
+            "--seed" => Some(OptionName::Seed),
+            "--until" => Some(OptionName::Until),
+            "--samples" => Some(OptionName::Samples),
+            "--limit" => Some(OptionName::Limit),
+            "--inputs" => Some(OptionName::Inputs),
+            _ => None,
+        }
+    }
+}
+
+/// The whole number that a value spells, from `least` to `most`.
+pub(crate) fn whole(value: &[u8], least: u64, most: u64) -> Option<u64>
+    ensures { result ≡ whole_in least most value.now }
+{
+    let number = read_u64(value)?;
+    if least <= number && number <= most {
+        Some(number)
+    } else {
+        None
+    }
+}
+
+/// Whether a value has the characters 0 and 1 alone.
+pub(crate) fn are_bits(value: &[u8]) -> bool
+    ensures { result ≡ list_all is_bit value.now }
+{
+    value.iter().all(|c| *c == b'0' || *c == b'1')
+}

@@ -1,0 +1,99 @@
+use super::*;
+use std::alloc::{AllocError, Global};
+use std::test::Fail;
+use surf_text::words;
+
+/// Reads the words of a line.
+fn read(alloc: Global, line: &str, program: Program) -> Result<Result<Words, usize>, AllocError> {
+    let mut list = Vec::new(alloc);
+    for word in words(alloc, line)? {
+        list.push(String::from_str(alloc, word)?)?;
+    }
+    Ok(Words::read(&list, program))
+}
+
+fn run(seed: Option<u64>, until: Option<u64>, samples: u64, limit: u64) -> Words {
+    Words::Run {
+        workers: 1,
+        seed,
+        until,
+        samples,
+        limit,
+    }
+}
+
+#[test]
+fn accepted_words(rt: HostRuntime) -> Result<(), Fail> {
+    for (line, said) in [
+        ("check", Words::Check),
+        ("print", Words::Print),
+        ("run", run(None, None, 1, 1_000_000)),
+        (
+            "run --until 2.5 --seed 007 --limit 0 --samples 10000",
+            run(Some(7), Some(2_500_000), 10_000, 0),
+        ),
+        (
+            "run --limit 10000000 --seed 18446744073709551615 --until 1e9 --workers 01 --samples 0",
+            run(
+                Some(18_446_744_073_709_551_615),
+                Some(1_000_000_000_000_000),
+                0,
+                10_000_000,
+            ),
+        ),
+        ("value", Words::Value { inputs: None }),
+        ("value --inputs 0110", Words::Value { inputs: Some(2) }),
+    ] {
+        assert_eq!(rt; read(rt.alloc(), line, Program::Surface)?, Ok(said));
+    }
+    Ok(())
+}
+
+#[test]
+fn inputs_may_be_none(rt: HostRuntime) -> Result<(), Fail> {
+    let mut list = Vec::new(rt.alloc());
+    list.push(String::from_str(rt.alloc(), "value")?)?;
+    list.push(String::from_str(rt.alloc(), "--inputs")?)?;
+    list.push(String::new(rt.alloc()))?;
+    assert_eq!(rt;
+        Words::read(&list, Program::Surface),
+        Ok(Words::Value { inputs: Some(2) })
+    );
+    Ok(())
+}
+
+#[test]
+fn the_first_wrong_word_is_named(rt: HostRuntime) -> Result<(), Fail> {
+    for (line, index) in [
+        ("", 0),
+        ("watch", 0),
+        ("Run", 0),
+        ("--workers 1", 0),
+        ("check x", 1),
+        ("print --seed 1", 1),
+        ("run --inputs 1", 1),
+        ("run --seed", 2),
+        ("run --workers 0", 2),
+        ("run --workers 65", 2),
+        ("run --seed 18446744073709551616", 2),
+        ("run --seed 000000000000000000001", 2),
+        ("run --until 1000000001", 2),
+        ("run --samples 10001", 2),
+        ("run --limit 10000001", 2),
+        ("value --inputs 012", 2),
+        ("run --workers 2 --workers 2", 3),
+        ("run --workers 2 --seed", 4),
+        ("run --workers 2 --seed x y", 4),
+    ] {
+        assert_eq!(rt; read(rt.alloc(), line, Program::Surface)?, Err(index));
+    }
+    Ok(())
+}
+
+#[test]
+fn watch_has_no_commands(rt: HostRuntime) -> Result<(), Fail> {
+    for line in ["", "watch", "check", "run --workers 0"] {
+        assert_eq!(rt; read(rt.alloc(), line, Program::Watch)?, Err(0));
+    }
+    Ok(())
+}

@@ -1,0 +1,79 @@
+//! The reading of a list of words.
+
+ghost use Rattle.std.specs.Prelude.{◌≡◌, ◌↔◌, ℕ, length, map, string_bytes, Some, None, Err, true, IfOk, OnOk, IfErr, IsOk};
+ghost use Rattle.surface_words.specs.Accepted.{is_accepted};
+ghost use Rattle.surface_words.specs.FirstWrong.{first_wrong, IsFirstWrong};
+ghost use Rattle.surface_words.specs.Given.{words_by};
+ghost use Rattle.surface_words.specs.Reading.{reading, IsInRange};
+
+use crate::commands::{Command, Program};
+use crate::given::Given;
+
+/// What accepted words say.
+#[derive(Clone, Copy, Debug, PartialEq, Eq)]
+pub enum Words {
+    Check,
+    Print,
+    Run {
+        /// From 1 to 64.
+        workers: u64,
+        /// In place of the manifest's.
+        seed: Option<u64>,
+        /// In ticks, of which a unit of time has 10^6; in place of the manifest's duration.
+        until: Option<u64>,
+        /// At most 10,000.
+        samples: u64,
+        /// The most events, at most 10,000,000.
+        limit: u64,
+    },
+    Value {
+        /// The index of the word with the inputs, which has the characters 0 and 1 alone.
+        inputs: Option<usize>,
+    },
+}
+
+impl Words {
+    /// What the command says with these values, and with what is meant where a value isn't given.
+    fn of(command: Command, given: &Given) -> Words
+        ensures { result ≡ words_by command given.now }
+    {
+        match command {
+            Command::Check => Words::Check,
+            Command::Print => Words::Print,
+            Command::Run => Words::Run {
+                workers: given.workers.unwrap_or(1),
+                seed: given.seed,
+                until: given.until,
+                samples: given.samples.unwrap_or(1),
+                limit: given.limit.unwrap_or(1_000_000),
+            },
+            Command::Value => Words::Value {
+                inputs: given.inputs,
+            },
+        }
+    }
+
+    /// What a program's words say, or the index of the first wrong word, from 0. A missing or unknown command is 0; an
+    /// option that the command hasn't, or that was there before, is the option's index; a value that is missing or not
+    /// allowed is the index after the option. The words are read once, from left to right.
+    pub fn read(words: &[String], program: Program) -> Result<Words, usize>
+        ensures ok { IfOk result (λ w. reading program (map string_bytes words.now) ≡ Some w) }
+        ensures right { OnOk result (first_wrong program (map string_bytes words.now) ≡ None) }
+        ensures wrong { IfErr result (λ i. first_wrong program (map string_bytes words.now) ≡ Some i) }
+        ensures accepted { IsOk result ↔ (is_accepted program (map string_bytes words.now) ≡ true) }
+        ensures range { IfOk result (λ w. IsInRange (length words.now) w) }
+        ensures first { IfErr result (λ i. IsFirstWrong program (map string_bytes words.now) i) }
+        ensures only { (i : ℕ) → IsFirstWrong program (map string_bytes words.now) i → result ≡ Err i }
+    {
+        let Some((word, pairs)) = words.split_first() else {
+            return Err(0);
+        };
+        let Some(command) = Command::read(word.as_str(), program) else {
+            return Err(0);
+        };
+        match Given::read(command, pairs) {
+            Ok(given) => Ok(Words::of(command, &given)),
+            Err(index) => Err(index),
+        }
+    }
+}
