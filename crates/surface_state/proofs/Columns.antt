@@ -1,5 +1,5 @@
 -- Columns and the states that they stand for.
-use Rattle.std.proofs.Common.{◌≡◌, ℕ, zero, suc, ◌+◌, ◌*◌, ◌<◌, List, [], ◌∷◌, length, Some, ◌==◌, refl, sym, ap, ◌∙◌, arith, set, get_or, count_by, cond, replicate}
+use Rattle.std.proofs.Common.{◌≡◌, ℕ, zero, suc, ◌+◌, ◌*◌, ◌<◌, List, [], ◌∷◌, length, Some, ◌==◌, refl, sym, ap, ◌∙◌, arith, set, get_or, count_by, cond, replicate, map}
 use Rattle.std.specs.Prelude.{slice_get, All}
 use Rattle.std.proofs.lemmas.List.Elements.{All-cons, All-nil, All-head, All-tail}
 use Rattle.std.proofs.lemmas.List.Sums.{sum_by-set, sum_by-cons}
@@ -22,6 +22,12 @@ states-length (s ∷ species) (m ∷ marks) h = ap (λ n. suc n) (states-length 
 -- there is a state for each site
 pub long_of : (l : Shape) (species : List SpeciesId) (marks : List Mark) (counts : List ℕ) → AreColumns l species marks counts → length (states species marks) ≡ l.rows * l.cols
 long_of l species marks counts c = states-length species marks (c.marks_long ∙ sym c.species_long) ∙ c.species_long
+
+-- the species of the states are the column
+pub states-species : (species : List SpeciesId) (marks : List Mark) → length marks ≡ length species → map (λ (s : SiteState). s.species) (states species marks) ≡ species
+states-species [] marks h = refl
+states-species (s ∷ species) [] h = absurd (omega (arith, h))
+states-species (s ∷ species) (m ∷ marks) h = ap (λ l. s ∷ l) (states-species species marks (omega (arith, h)))
 
 pub states-set : (species : List SpeciesId) (marks : List Mark) (i : ℕ) (s : SpeciesId) (m : Mark) → states (set species i s) (set marks i m) ≡ set (states species marks) i (state_of s m)
 states-set [] marks i s m = refl

@@ -1,6 +1,6 @@
 //! The surface: what stands at the sites of a lattice.
 
-ghost use Rattle.std.specs.Prelude.{◌≡◌, ◌+◌, ◌-◌, ◌*◌, ◌^◌, ◌<◌, ◌≤◌, ◌==◌, length, All, IfOk, IfSome, Some, slice_get, slice_set, count_by};
+ghost use Rattle.std.specs.Prelude.{◌≡◌, ◌+◌, ◌-◌, ◌*◌, ◌^◌, ◌<◌, ◌≤◌, ◌==◌, length, All, IfOk, IfSome, Some, map, slice_get, slice_set, count_by};
 ghost use Rattle.lattice.specs.Places.{IsPlace};
 ghost use Rattle.lattice.specs.Surface.{first_surface, rewrite as rewrite_by, HasRoom};
 ghost use Rattle.surface_state.specs.Changes.{applied, undone, IsBefore, IsLeft, IsSecondOf, AreBelow, IsBelow};
@@ -107,6 +107,15 @@ impl Surface {
         ensures below { All (λ s. s.species.0 < result) self.now.sites }
     {
         self.counts.len() as u32
+    }
+
+    /// The species at each site, row by row.
+    pub fn cells(&self) -> &[SpeciesId]
+        ensures cells { result.now ≡ map (λ s. s.species) self.now.sites }
+        ensures sites { length result.now ≡ self.now.lattice.rows * self.now.lattice.cols }
+        ensures below { All (λ s. s.0 < self.now.kinds) result.now }
+    {
+        &self.species
     }
 
     /// What stands at a site.

@@ -1,0 +1,4 @@
+pub mod Sequences
+pub mod Parts
+pub mod Spaced
+pub mod RowParts
