@@ -69,21 +69,21 @@ least_among-some xs (suc n) e k l at none_before alone = same_or k n
     let before : k < n = omega (arith, ne) in
     ap (λ o. earlier o (slice_index_or xs n None)) (least_among-some xs n e k before at none_before alone) ∙ earlier_first e (slice_index_or xs n None) (λ m s. none_before n m s))
 
-module _ (first : ℕ) (h : List Entry) (n : ℕ) (p : List ℕ) (sound : IsSound first h n p) where
-  pub none_kept : n ≡ 0 → KeepsNone (seen first h n p)
-  none_kept z k = ⊎_elim (λ l. seen_out first h n p k l (omega arith)) (λ l. seen_past first h n p k l) (cases_lt k (length p))
+module _ (first : ℕ) (h : List Entry) (room : ℕ) (p : List ℕ) (sound : IsSound first h room p) where
+  pub none_kept : length h ≡ 0 → KeepsNone (seen first h (length h) p)
+  none_kept z k = ⊎_elim (λ l. seen_out first h (length h) p k l (omega arith)) (λ l. seen_past first h (length h) p k l) (cases_lt k (length p))
 
-  pub top_is_least : 0 < n → IsLeast (seen first h n p) (event_of first (entry_at h 0))
+  pub top_is_least : 0 < length h → IsLeast (seen first h (length h) p) (event_of first (entry_at h 0))
   top_is_least pos = record {
-    has_place = (omega arith, let z = length-seen first h n p in let y = within in omega arith);
-    is_kept = ap (λ k. slice_index_or (seen first h n p).events k None) back ∙ at_top;
+    has_place = (omega arith, let z = length-seen first h (length h) p in let y = within in omega arith);
+    is_kept = ap (λ k. slice_index_or (seen first h (length h) p).events k None) back ∙ at_top;
     none_before = λ k f s.
-        let r = seen_some first h n p k f s in
-        ap (λ e. is_before e (event_of first (entry_at h 0))) (sym r.2) ∙ is_before-event_of first (entry_at h (slice_index p k)) (entry_at h 0) ∙ top_first h n (slice_index p k) sound.ordered r.1;
+        let r = seen_some first h (length h) p k f s in
+        ap (λ e. is_before e (event_of first (entry_at h 0))) (sym r.2) ∙ is_before-event_of first (entry_at h (slice_index p k)) (entry_at h 0) ∙ top_first h (length h) (slice_index p k) sound.ordered r.1;
   }
     where
       some_entry : 0 < length h
-      some_entry = let w = sound.within in omega arith
+      some_entry = pos
 
       within : (entry_at h 0).offset < length p
       within = sound.inverse.offset_within 0 some_entry
@@ -91,24 +91,24 @@ module _ (first : ℕ) (h : List Entry) (n : ℕ) (p : List ℕ) (sound : IsSoun
       back : (first + (entry_at h 0).offset) - first ≡ (entry_at h 0).offset
       back = omega arith
 
-      at_top : slice_index_or (seen first h n p).events (entry_at h 0).offset None ≡ Some (event_of first (entry_at h 0))
+      at_top : slice_index_or (seen first h (length h) p).events (entry_at h 0).offset None ≡ Some (event_of first (entry_at h 0))
       at_top =
           let z = sound.inverse.position_of 0 some_entry in
-          seen_in first h n p (entry_at h 0).offset within (omega arith) ∙ ap (λ k. Some (event_of first (entry_at h k))) z
+          seen_in first h (length h) p (entry_at h 0).offset within (omega arith) ∙ ap (λ k. Some (event_of first (entry_at h k))) z
 
-  pub top_is_earliest : 0 < n → Some (event_of first (entry_at h 0)) ≡ least_among (seen first h n p).events (length (seen first h n p).events)
-  top_is_earliest pos = sym (least_among-some (seen first h n p).events (length (seen first h n p).events) (event_of first (entry_at h 0)) ((first + (entry_at h 0).offset) - first) inside least.is_kept least.none_before alone)
+  pub top_is_earliest : 0 < length h → Some (event_of first (entry_at h 0)) ≡ least_among (seen first h (length h) p).events (length (seen first h (length h) p).events)
+  top_is_earliest pos = sym (least_among-some (seen first h (length h) p).events (length (seen first h (length h) p).events) (event_of first (entry_at h 0)) ((first + (entry_at h 0).offset) - first) inside least.is_kept least.none_before alone)
     where
-      inside : (first + (entry_at h 0).offset) - first < length (seen first h n p).events
-      inside = let z = length-seen first h n p in let w = sound.within in let y = sound.inverse.offset_within 0 (omega arith) in omega arith
+      inside : (first + (entry_at h 0).offset) - first < length (seen first h (length h) p).events
+      inside = let z = length-seen first h (length h) p in let y = sound.inverse.offset_within 0 (omega arith) in omega arith
 
-      least : IsLeast (seen first h n p) (event_of first (entry_at h 0))
+      least : IsLeast (seen first h (length h) p) (event_of first (entry_at h 0))
       least = top_is_least pos
 
-      alone : (j : ℕ) (f : Event) → slice_index_or (seen first h n p).events j None ≡ Some f → is_before (event_of first (entry_at h 0)) f ≡ false → f ≡ event_of first (entry_at h 0)
+      alone : (j : ℕ) (f : Event) → slice_index_or (seen first h (length h) p).events j None ≡ Some f → is_before (event_of first (entry_at h 0)) f ≡ false → f ≡ event_of first (entry_at h 0)
       alone j f s not =
-          let r = seen_some first h n p j f s in
-          let at : f.place.0 ≡ first + j = ap (λ (v : Event). v.place.0) (sym r.2) ∙ ap (λ k. first + k) (sound.inverse.offset_of j r.0) in
+          let r = seen_some first h (length h) p j f s in
+          let at : f.place.0 ≡ first + j = ap (λ (v : Event). v.place.0) (sym r.2) ∙ ap (λ k. first + k) (sound.inverse.offset_of j r.0 r.1) in
           let same : f.place.0 ≡ first + (entry_at h 0).offset = same_place f (event_of first (entry_at h 0)) (least.none_before j f s) not in
           let here : j ≡ (first + (entry_at h 0).offset) - first = omega arith in
-          some_same f (event_of first (entry_at h 0)) (sym s ∙ ap (λ k. slice_index_or (seen first h n p).events k None) here ∙ least.is_kept)
+          some_same f (event_of first (entry_at h 0)) (sym s ∙ ap (λ k. slice_index_or (seen first h (length h) p).events k None) here ∙ least.is_kept)

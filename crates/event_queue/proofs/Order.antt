@@ -81,6 +81,22 @@ module _ {A : Type 0} (lt : A → A → Bool) (o : IsStrictWeakOrder lt) where
           let kid = others j jp jn ne (λ z. ne-less (parent i) i l1 (sym pj ∙ z)) in
           moved (f j) (g j) (f pp) (g pp) (sw.2 j ne nj) still (o.chain _ _ _ (moved (f j) (f j) (f (parent j)) (f (parent i)) refl (ap f (sym pj)) kid) edge))
 
+  -- and none of those below its new place is before it
+  pub rise_above : (f g : ℕ → A) (n i : ℕ) → Swapped f g i (parent i) → 0 < i → i < n → Others lt f n i → lt (f i) (f (parent i)) ≡ true → (j : ℕ) → 0 < j → j < n → parent j ≡ parent i → lt (g j) (g (parent i)) ≡ false
+  rise_above f g n i sw pos below others before j jp jn pj =
+      let lj : parent j < j = parent-less j jp in
+      let li : parent i < i = parent-less i pos in
+      same_or j i
+      (λ e. moved (f (parent i)) (g j) (f i) (g (parent i)) (ap g e ∙ sw.0) sw.1 (o.one_way _ _ before))
+      (λ ne.
+      let nj : j ≡ parent i → ⊥ = ne-more j (parent i) (omega arith) in
+      let kid = others j jp jn ne (λ z. ne-less (parent i) i li (sym pj ∙ z)) in
+      moved (f j) (g j) (f i) (g (parent i)) (sw.2 j ne nj) sw.1 (o.chain _ _ _ (moved (f j) (f j) (f (parent j)) (f (parent i)) refl (ap f (sym pj)) kid) (o.one_way _ _ before)))
+
+  -- an entry that has to go up is after none of those below it
+  pub above_start : (f : ℕ → A) (n i : ℕ) → Over lt f n i → 0 < i → lt (f i) (f (parent i)) ≡ true → (j : ℕ) → 0 < j → j < n → parent j ≡ i → lt (f j) (f i) ≡ false
+  above_start f n i over pos before j jp jn pj = o.chain _ _ _ (over j jp jn pos pj) (o.one_way _ _ before)
+
   -- the entry at i went down to c, the least of those below it
   pub sink_step : (f g : ℕ → A) (n i c : ℕ) → Swapped f g i c → parent c ≡ i → 0 < c → c < n → Others lt f n i → Over lt f n i
       → lt (f c) (f i) ≡ true → ((s : ℕ) → 0 < s → s < n → parent s ≡ i → lt (f s) (f c) ≡ false)

@@ -1,14 +1,13 @@
 -- The order of entries, and the steps of the heap in this order.
-use Rattle.std.proofs.Common.{◌≡◌, ℕ, ◌+◌, ◌*◌, ◌<◌, ◌≤◌, Bool, true, false, ltb, eqb, ◌||◌, ◌&&◌, List, arith}
+use Rattle.std.proofs.Common.{◌≡◌, ℕ, ◌+◌, ◌*◌, ◌<◌, ◌≤◌, Bool, true, false, ltb, eqb, ◌||◌, ◌&&◌, List, length, ap, ◌∙◌, arith, get_or-set_other}
 use Rattle.std.specs.Cmp.{IsStrictWeakOrder}
-use Rattle.std.specs.List.{SwappedAt}
 use Rattle.std.proofs.lemmas.Bool.Decides.{nat_tests}
 use Rattle.std.proofs.lemmas.List.Edits.{Swapped}
 use Rattle.surf_kinds.specs.Keys.{is_before}
 use Rattle.surf_kinds.specs.declared.event.Event.{Event}
 use Rattle.event_queue.specs.declared.entry.Entry.{Entry}
-use Rattle.event_queue.specs.Heap.{precedes, event_of, entry_at, nothing, parent, IsHeap, IsHeapBut, IsBelowParent}
-use Rattle.event_queue.proofs.Order.{rise_step, sink_step, sink_done, kids_after, heap_but, heap_top}
+use Rattle.event_queue.specs.Heap.{precedes, event_of, entry_at, nothing, parent, IsHeap, IsHeapBut, IsBelowParent, IsAboveOthers, filled}
+use Rattle.event_queue.proofs.Order.{rise_step, rise_above, sink_step, sink_done, kids_after, heap_but, heap_top, ne-more, same_or}
 
 abbrev before : ℕ → ℕ → ℕ → ℕ → Bool
 before t o u p = ltb t u || (eqb t u && ltb o p)
@@ -37,9 +36,6 @@ is_before_one_way e f h = before_one_way e.time e.place.0 f.time f.place.0 h
 pub is_before_chain : (e f g : Event) → is_before e f ≡ false → is_before f g ≡ false → is_before e g ≡ false
 is_before_chain e f g h k = before_chain e.time e.place.0 f.time f.place.0 g.time g.place.0 h k
 
-pub is_before_order : IsStrictWeakOrder is_before
-is_before_order = record { one_way = is_before_one_way; chain = is_before_chain }
-
 same_key : (t o u p : ℕ) → before t o u p ≡ false → before u p t o ≡ false → o ≡ p
 same_key t o u p h k = grind (arith, nat_tests)
 
@@ -47,27 +43,24 @@ same_key t o u p h k = grind (arith, nat_tests)
 pub same_place : (e f : Event) → is_before e f ≡ false → is_before f e ≡ false → e.place.0 ≡ f.place.0
 same_place e f h k = same_key e.time e.place.0 f.time f.place.0 h k
 
-at_swapped : (xs ys : List Entry) (i j : ℕ) → SwappedAt xs ys i j → Swapped (entry_at xs) (entry_at ys) i j
-at_swapped xs ys i j sw = (sw.0 nothing, sw.1 nothing, λ k a b. sw.2 k nothing a b)
+abbrev pub Moved : List Entry → List Entry → ℕ → ℕ → Type 0
+Moved xs ys i j = Swapped (entry_at xs) (entry_at ys) i j
 
-pub risen : (xs ys : List Entry) (n i : ℕ) → SwappedAt xs ys i (parent i) → 0 < i → i < n → IsHeapBut xs n i → IsHeapBut ys n (parent i)
-risen xs ys n i sw pos below h =
-    let r = rise_step precedes precedes_order (entry_at xs) (entry_at ys) n i (at_swapped xs ys i (parent i) sw) pos below h.others h.over in
-    record { others = r.0; over = r.1 }
+pub risen : (xs ys : List Entry) (n i : ℕ) → Moved xs ys i (parent i) → 0 < i → i < n → IsHeapBut xs n i → precedes (entry_at xs i) (entry_at xs (parent i)) ≡ true → IsHeapBut ys n (parent i) × IsAboveOthers ys n (parent i)
+risen xs ys n i sw pos below h before =
+    let r = rise_step precedes precedes_order (entry_at xs) (entry_at ys) n i sw pos below h.others h.over in
+    (record { others = r.0; over = r.1 }, rise_above precedes precedes_order (entry_at xs) (entry_at ys) n i sw pos below h.others before)
 
-pub sunk : (xs ys : List Entry) (n i c : ℕ) → SwappedAt xs ys i c → parent c ≡ i → 0 < c → c < n → IsHeapBut xs n i
+pub sunk : (xs ys : List Entry) (n i c : ℕ) → Moved xs ys i c → parent c ≡ i → 0 < c → c < n → IsHeapBut xs n i
     → precedes (entry_at xs c) (entry_at xs i) ≡ true → ((s : ℕ) → 0 < s → s < n → parent s ≡ i → precedes (entry_at xs s) (entry_at xs c) ≡ false)
     → IsHeapBut ys n c × IsBelowParent ys c
 sunk xs ys n i c sw pc cp cn h before least =
-    let r = sink_step precedes precedes_order (entry_at xs) (entry_at ys) n i c (at_swapped xs ys i c sw) pc cp cn h.others h.over before least in
+    let r = sink_step precedes precedes_order (entry_at xs) (entry_at ys) n i c sw pc cp cn h.others h.over before least in
     (record { others = r.0; over = r.1 }, λ _. r.2)
 
 pub settled : (xs : List Entry) (n i c : ℕ) → IsHeapBut xs n i → IsBelowParent xs i
     → precedes (entry_at xs c) (entry_at xs i) ≡ false → ((s : ℕ) → 0 < s → s < n → parent s ≡ i → precedes (entry_at xs s) (entry_at xs c) ≡ false) → IsHeap xs n
 settled xs n i c h above not least = sink_done precedes precedes_order (entry_at xs) n i h.others above (kids_after precedes precedes_order (entry_at xs) n i c not least)
-
-pub settled_low : (xs : List Entry) (n i : ℕ) → IsHeapBut xs n i → IsBelowParent xs i → n ≤ i * 4 + 1 → IsHeap xs n
-settled_low xs n i h above low = sink_done precedes precedes_order (entry_at xs) n i h.others above (λ j jp jn pj. absurd (omega arith))
 
 pub but_at : (xs ys : List Entry) (n m i : ℕ) → IsHeap xs n → ((k : ℕ) → k < m → (k ≡ i → ⊥) → (k < n) × (entry_at ys k ≡ entry_at xs k)) → IsHeapBut ys m i
 but_at xs ys n m i h same =
@@ -81,3 +74,27 @@ top_first xs n i h l = heap_top precedes precedes_order (entry_at xs) n h i i (o
 pub least_below : (xs : List Entry) (n i c : ℕ) → ((k : ℕ) → i * 4 + 1 ≤ k → k < i * 4 + 1 + 4 → k < n → precedes (entry_at xs k) (entry_at xs c) ≡ false)
     → (s : ℕ) → 0 < s → s < n → parent s ≡ i → precedes (entry_at xs s) (entry_at xs c) ≡ false
 least_below xs n i c least s sp sn ps = least s (omega arith) (omega arith) sn
+
+-- the same with an entry in the hole at i
+pub least_filled : (h : List Entry) (i c : ℕ) (e : Entry) → (c ≡ i → ⊥) → ((k : ℕ) → i * 4 + 1 ≤ k → k < i * 4 + 1 + 4 → k < length h → precedes (entry_at h k) (entry_at h c) ≡ false)
+    → (s : ℕ) → 0 < s → s < length h → parent s ≡ i → precedes (entry_at (filled h i e) s) (entry_at (filled h i e) c) ≡ false
+least_filled h i c e ci least s sp sn ps =
+    let si : s ≡ i → ⊥ = ne-more s i (omega arith) in
+    ap (λ y. precedes y (entry_at (filled h i e) c)) (get_or-set_other h i s e nothing si)
+    ∙ ap (λ y. precedes (entry_at h s) y) (get_or-set_other h i c e nothing ci)
+    ∙ least_below h (length h) i c least s sp sn ps
+
+not_before_by : (h : List Entry) (i j b : ℕ) → precedes (entry_at h i) (entry_at h j) ≡ false → precedes (entry_at h j) (entry_at h b) ≡ false → precedes (entry_at h i) (entry_at h b) ≡ false
+not_before_by h i j b p q = precedes_order.chain (entry_at h i) (entry_at h j) (entry_at h b) p q
+
+-- the lesser of two of the lesser of two is the least of four
+pub least_of_four : (h : List Entry) (f l r b : ℕ)
+    → precedes (entry_at h f) (entry_at h l) ≡ false → precedes (entry_at h (f + 1)) (entry_at h l) ≡ false
+    → precedes (entry_at h (f + 2)) (entry_at h r) ≡ false → precedes (entry_at h (f + 3)) (entry_at h r) ≡ false
+    → precedes (entry_at h l) (entry_at h b) ≡ false → precedes (entry_at h r) (entry_at h b) ≡ false
+    → (k : ℕ) → f ≤ k → k < f + 4 → precedes (entry_at h k) (entry_at h b) ≡ false
+least_of_four h f l r b p0 p1 p2 p3 pl pr k from to =
+    same_or k f (λ e. rw e (not_before_by h f l b p0 pl))
+    (λ n0. same_or k (f + 1) (λ e. rw e (not_before_by h (f + 1) l b p1 pl))
+    (λ n1. same_or k (f + 2) (λ e. rw e (not_before_by h (f + 2) r b p2 pr))
+    (λ n2. let e : k ≡ f + 3 = omega (arith, n0, n1, n2, from, to) in rw e (not_before_by h (f + 3) r b p3 pr))))

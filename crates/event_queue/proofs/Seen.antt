@@ -105,7 +105,7 @@ seen_get first h n p q place at x e view has inv read below within entry event =
     let pos : slice_index p k ≡ at = index_read p k at r.1 read in
     let is : x ≡ entry_at h at = get_or_read h at x (omega arith) entry nothing in
     let seen_here : slice_index_or (seen first h n p).events k None ≡ Some (event_of first (entry_at h (slice_index p k))) = seen_in first h n p k r.1 (omega arith) in
-    let off : x.offset ≡ k = ap (λ (y : Entry). y.offset) (is ∙ ap (entry_at h) (sym pos)) ∙ inv.offset_of k r.1 in
+    let off : x.offset ≡ k = ap (λ (y : Entry). y.offset) (is ∙ ap (entry_at h) (sym pos)) ∙ inv.offset_of k r.1 (omega arith) in
     let make : ℕ → Place = λ i. record { 0 = i } in
     let back : first + x.offset ≡ place.0 = let z = r.0 in omega arith in (
       ap (λ (v : Event). Some v) (event ∙ ap (event_of first) (is ∙ ap (entry_at h) (sym pos))) ∙ sym seen_here ∙ ap (λ (s : Kept). slice_index_or s.events k None) view ∙ ap (λ i. slice_index_or q.events i None) r.2,

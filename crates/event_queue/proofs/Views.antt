@@ -1,11 +1,12 @@
--- What moves and writes in the heap leave of the kept entries.
-use Rattle.std.proofs.Common.{◌≡◌, ℕ, ◌+◌, ◌-◌, ◌<◌, ◌≤◌, Bool, true, false, ltb, List, length, set, refl, sym, ap, ◌∙◌, arith, slice_index_or, slice_index, Option, Some, None, get_or-set_same, get_or-set_other}
-use Rattle.std.specs.List.{SwappedAt}
+-- What moves and writes in the heap leave of the kept entries and of their positions.
+use Rattle.std.proofs.Common.{◌≡◌, ℕ, ◌<◌, ◌≤◌, Bool, true, false, ltb, List, length, refl, sym, ap, ◌∙◌, arith, slice_index_or, slice_index, Option, Some, None, get_or-set_same, get_or-set_other}
+use mathlib.Core.Logic.{⊎_elim}
 use Rattle.std.proofs.lemmas.List.{same_lists, get_or-map, length-map, length-set}
-use Rattle.std.proofs.lemmas.Bool.{ltb-true, ltb-false, lt-ltb, le-ltb}
+use Rattle.std.proofs.lemmas.Bool.{ltb-true, ltb-false, lt-ltb, le-ltb, cases_lt}
 use Rattle.event_queue.specs.declared.entry.Entry.{Entry}
-use Rattle.event_queue.specs.Heap.{entry_at, nothing, among, kept_entries, AreInverse}
+use Rattle.event_queue.specs.Heap.{entry_at, nothing, among, kept_entries, kept_with, filled, told, nowhere, precedes, AreInverse}
 use Rattle.event_queue.proofs.Order.{same_or}
+use Rattle.event_queue.proofs.Orders.{Moved}
 
 pub among_in : (h : List Entry) (n p : ℕ) → p < n → among h n p ≡ Some (entry_at h p)
 among_in h n p l = rw (lt-ltb p n l) refl
@@ -38,16 +39,53 @@ length-kept_entries h n p = length-map p (among h n)
 pub kept_entries_at : (h : List Entry) (n : ℕ) (p : List ℕ) (k : ℕ) (d : Option Entry) → k < length p → slice_index_or (kept_entries h n p) k d ≡ among h n (slice_index p k)
 kept_entries_at h n p k d l = get_or-map (among h n) p k 0 d l
 
--- two entries that change places on one side of n
-pub kept_after_swap : (h h' : List Entry) (p p' : List ℕ) (n i j : ℕ) → SwappedAt h h' i j → AreInverse h p → AreInverse h' p' → length h' ≡ length h
-    → i < length h → j < length h → (i < n → j < n) → (j < n → i < n) → kept_entries h' n p' ≡ kept_entries h n p
-kept_after_swap h h' p p' n i j sw inv inv' long il jl to from = same_lists _ _ (length-kept_entries h' n p' ∙ same ∙ sym (length-kept_entries h n p)) at
+-- two entries that change places
+pub kept_after_swap : (h h' : List Entry) (p p' : List ℕ) (n i j : ℕ) → Moved h h' i j → AreInverse h p → AreInverse h' p' → length h ≡ n → length h' ≡ n → length p' ≡ length p
+    → i < n → j < n → kept_entries h' n p' ≡ kept_entries h n p
+kept_after_swap h h' p p' n i j sw inv inv' long long' same il jl = same_lists _ _ (length-kept_entries h' n p' ∙ same ∙ sym (length-kept_entries h n p)) at
   where
-    same : length p' ≡ length p
-    same = sym inv'.same_length ∙ long ∙ inv.same_length
+    inside : (k : ℕ) → k < length p → slice_index p k < n → among h' n (slice_index p' k) ≡ among h n (slice_index p k)
+    inside k kl ql = same_or (slice_index p k) i
+        (λ e.
+        let off : (entry_at h' j).offset ≡ k = ap (λ (x : Entry). x.offset) (sw.1 ∙ ap (entry_at h) (sym e)) ∙ inv.offset_of k kl (omega arith) in
+        let pos = position_is h' p' j k inv' (omega arith) off in
+        rw (pos, e) (among_at h h' n n j i sw.1 (λ _. jl) (λ _. il)))
+        (λ ni. same_or (slice_index p k) j
+        (λ e.
+        let off : (entry_at h' i).offset ≡ k = ap (λ (x : Entry). x.offset) (sw.0 ∙ ap (entry_at h) (sym e)) ∙ inv.offset_of k kl (omega arith) in
+        let pos = position_is h' p' i k inv' (omega arith) off in
+        rw (pos, e) (among_at h h' n n i j sw.0 (λ _. il) (λ _. jl)))
+        (λ nj.
+        let stays = sw.2 (slice_index p k) ni nj in
+        let off : (entry_at h' (slice_index p k)).offset ≡ k = ap (λ (x : Entry). x.offset) stays ∙ inv.offset_of k kl (omega arith) in
+        let pos = position_is h' p' (slice_index p k) k inv' (omega arith) off in
+        rw pos (among_at h h' n n (slice_index p k) (slice_index p k) stays (λ z. z) (λ z. z))))
+
+    still_out : (k : ℕ) → k < length p → n ≤ slice_index p k → slice_index p' k < n → ⊥
+    still_out k kl out q =
+        let off : (entry_at h' (slice_index p' k)).offset ≡ k = inv'.offset_of k (omega arith) (omega arith) in
+        same_or (slice_index p' k) i
+        (λ e.
+        let was : (entry_at h j).offset ≡ k = ap (λ (x : Entry). x.offset) (sym sw.0 ∙ ap (entry_at h') (sym e)) ∙ off in
+        let pos = position_is h p j k inv (omega arith) was in
+        omega arith)
+        (λ ni. same_or (slice_index p' k) j
+        (λ e.
+        let was : (entry_at h i).offset ≡ k = ap (λ (x : Entry). x.offset) (sym sw.1 ∙ ap (entry_at h') (sym e)) ∙ off in
+        let pos = position_is h p i k inv (omega arith) was in
+        omega arith)
+        (λ nj.
+        let was : (entry_at h (slice_index p' k)).offset ≡ k = ap (λ (x : Entry). x.offset) (sym (sw.2 (slice_index p' k) ni nj)) ∙ off in
+        let pos = position_is h p (slice_index p' k) k inv (omega arith) was in
+        omega arith))
+
+    inner : (k : ℕ) → k < length p → among h' n (slice_index p' k) ≡ among h n (slice_index p k)
+    inner k kl = ⊎_elim (inside k kl)
+        (λ out. ⊎_elim (λ q. absurd (still_out k kl out q)) (λ out'. among_out h' n (slice_index p' k) out' ∙ sym (among_out h n (slice_index p k) out)) (cases_lt (slice_index p' k) n))
+        (cases_lt (slice_index p k) n)
 
     at : (k : ℕ) (d : Option Entry) → k < length (kept_entries h' n p') → slice_index_or (kept_entries h' n p') k d ≡ slice_index_or (kept_entries h n p) k d
-    at k d l = kept_entries_at h' n p' k d l' ∙ inner ∙ sym (kept_entries_at h n p k d kl)
+    at k d l = kept_entries_at h' n p' k d l' ∙ inner k kl ∙ sym (kept_entries_at h n p k d kl)
       where
         l' : k < length p'
         l' = let e = length-kept_entries h' n p' in omega arith
@@ -55,120 +93,126 @@ kept_after_swap h h' p p' n i j sw inv inv' long il jl to from = same_lists _ _ 
         kl : k < length p
         kl = let e = same in let f = l' in omega arith
 
-        q : ℕ
-        q = slice_index p k
+-- the offset of the entry for a hole
+pub hole_offset : (h : List Entry) (p : List ℕ) (at : ℕ) (e : Entry) → AreInverse (filled h at e) (told p at e) → at < length h → e.offset < length p
+hole_offset h p at e inv al =
+    let z = inv.offset_within at (let l = length-set h at e in omega arith) in
+    omega (arith, ap (λ (y : Entry). y.offset) (get_or-set_same h at e nothing al), length-set p e.offset at, z)
 
-        ql : slice_index p k < length h
-        ql = inv.position_within k kl
+-- a hole at `at` with e for it, and the entry x at `to` that moves into the hole
+module _ (h : List Entry) (p : List ℕ) (at to : ℕ) (e x : Entry) (inv : AreInverse (filled h at e) (told p at e)) (al : at < length h) (tl : to < length h) (ne : to ≡ at → ⊥) (is : x ≡ entry_at h to) where
+  before_at : entry_at (filled h at e) at ≡ e
+  before_at = get_or-set_same h at e nothing al
 
-        inner : among h' n (slice_index p' k) ≡ among h n (slice_index p k)
-        inner = same_or (slice_index p k) i
-            (λ e.
-            let off : (entry_at h' j).offset ≡ k = ap (λ (x : Entry). x.offset) (sw.1 nothing ∙ ap (entry_at h) (sym e)) ∙ inv.offset_of k kl in
-            let pos = position_is h' p' j k inv' (let z = long in omega arith) off in
-            rw (pos, e) (among_at h h' n n j i (sw.1 nothing) to from))
-            (λ ni. same_or (slice_index p k) j
-            (λ e.
-            let off : (entry_at h' i).offset ≡ k = ap (λ (x : Entry). x.offset) (sw.0 nothing ∙ ap (entry_at h) (sym e)) ∙ inv.offset_of k kl in
-            let pos = position_is h' p' i k inv' (let z = long in omega arith) off in
-            rw (pos, e) (among_at h h' n n i j (sw.0 nothing) from to))
-            (λ nj.
-            let stays = sw.2 (slice_index p k) nothing ni nj in
-            let off : (entry_at h' (slice_index p k)).offset ≡ k = ap (λ (x : Entry). x.offset) stays ∙ inv.offset_of k kl in
-            let pos = position_is h' p' (slice_index p k) k inv' (let z = long in let y = ql in omega arith) off in
-            rw pos (among_at h h' n n (slice_index p k) (slice_index p k) stays (λ z. z) (λ z. z))))
+  before_to : entry_at (filled h at e) to ≡ x
+  before_to = get_or-set_other h at to e nothing ne ∙ sym is
 
--- the entry at `at` is written and comes to be one of the first m
-pub kept_after_write : (h : List Entry) (p : List ℕ) (n m at : ℕ) (e : Entry) → AreInverse h p → at < length h → at < m → (entry_at h at).offset ≡ e.offset
-    → ((q : ℕ) → (q ≡ at → ⊥) → (q < n → q < m) × (q < m → q < n)) → kept_entries (set h at e) m p ≡ set (kept_entries h n p) e.offset (Some e)
-kept_after_write h p n m at e inv al am off sides = same_lists _ _ long each
-  where
-    long : length (kept_entries (set h at e) m p) ≡ length (set (kept_entries h n p) e.offset (Some e))
-    long = length-kept_entries (set h at e) m p ∙ sym (length-kept_entries h n p) ∙ sym (length-set (kept_entries h n p) e.offset (Some e))
+  pub e_before : precedes e x ≡ true → precedes (entry_at (filled h at e) at) (entry_at (filled h at e) to) ≡ true
+  e_before b = ap (λ y. precedes y (entry_at (filled h at e) to)) before_at ∙ ap (λ y. precedes e y) before_to ∙ b
 
-    each : (k : ℕ) (d : Option Entry) → k < length (kept_entries (set h at e) m p) → slice_index_or (kept_entries (set h at e) m p) k d ≡ slice_index_or (set (kept_entries h n p) e.offset (Some e)) k d
-    each k d l = kept_entries_at (set h at e) m p k d kl ∙ inner
-      where
-        kl : k < length p
-        kl = let z = length-kept_entries (set h at e) m p in omega arith
+  pub x_before : (b : Bool) → precedes x e ≡ b → precedes (entry_at (filled h at e) to) (entry_at (filled h at e) at) ≡ b
+  x_before b k = ap (λ y. precedes y (entry_at (filled h at e) at)) before_to ∙ ap (λ y. precedes x y) before_at ∙ k
 
-        inner : among (set h at e) m (slice_index p k) ≡ slice_index_or (set (kept_entries h n p) e.offset (Some e)) k d
-        inner = same_or k e.offset
-            (λ is.
-            let pos = position_is h p at k inv al (off ∙ sym is) in
-            let kk : e.offset < length (kept_entries h n p) = let z = length-kept_entries h n p in omega arith in
-            ap (among (set h at e) m) pos ∙ among_in (set h at e) m at am ∙ ap (λ (x : Entry). Some x) (get_or-set_same h at e nothing al)
-            ∙ sym (ap (λ i. slice_index_or (set (kept_entries h n p) e.offset (Some e)) i d) is ∙ get_or-set_same (kept_entries h n p) e.offset (Some e) d kk))
-            (λ not.
-            let ne : slice_index p k ≡ at → ⊥ = λ z. not (sym (inv.offset_of k kl) ∙ ap (λ i. (entry_at h i).offset) z ∙ off) in
-            let s = sides (slice_index p k) ne in
-            among_at h (set h at e) n m (slice_index p k) (slice_index p k) (get_or-set_other h at (slice_index p k) e nothing ne) s.0 s.1
-            ∙ sym (get_or-set_other (kept_entries h n p) e.offset k (Some e) d not ∙ kept_entries_at h n p k d kl))
+  after_at : entry_at (filled (filled h at x) to e) at ≡ x
+  after_at = get_or-set_other (filled h at x) to at e nothing (λ z. ne (sym z)) ∙ get_or-set_same h at x nothing al
 
--- the last of the first n is no longer one of them
-pub kept_after_drop : (h : List Entry) (p : List ℕ) (n m o : ℕ) → AreInverse h p → m < length h → n ≡ m + 1 → (entry_at h m).offset ≡ o
-    → kept_entries h m p ≡ set (kept_entries h n p) o None
-kept_after_drop h p n m o inv ml nm off = same_lists _ _ long each
-  where
-    long : length (kept_entries h m p) ≡ length (set (kept_entries h n p) o None)
-    long = length-kept_entries h m p ∙ sym (length-kept_entries h n p) ∙ sym (length-set (kept_entries h n p) o None)
+  after_to : entry_at (filled (filled h at x) to e) to ≡ e
+  after_to = get_or-set_same (filled h at x) to e nothing (let z = length-set h at x in omega arith)
 
-    each : (k : ℕ) (d : Option Entry) → k < length (kept_entries h m p) → slice_index_or (kept_entries h m p) k d ≡ slice_index_or (set (kept_entries h n p) o None) k d
-    each k d l = kept_entries_at h m p k d kl ∙ inner
-      where
-        kl : k < length p
-        kl = let z = length-kept_entries h m p in omega arith
+  after_else : (k : ℕ) → (k ≡ at → ⊥) → (k ≡ to → ⊥) → entry_at (filled (filled h at x) to e) k ≡ entry_at (filled h at e) k
+  after_else k na nt = get_or-set_other (filled h at x) to k e nothing nt ∙ get_or-set_other h at k x nothing na ∙ sym (get_or-set_other h at k e nothing na)
 
-        inner : among h m (slice_index p k) ≡ slice_index_or (set (kept_entries h n p) o None) k d
-        inner = same_or k o
-            (λ is.
-            let pos = position_is h p m k inv ml (off ∙ sym is) in
-            let kk : o < length (kept_entries h n p) = let z = length-kept_entries h n p in omega arith in
-            ap (among h m) pos ∙ among_out h m m (omega arith)
-            ∙ sym (ap (λ i. slice_index_or (set (kept_entries h n p) o None) i d) is ∙ get_or-set_same (kept_entries h n p) o None d kk))
-            (λ not.
-            let ne : slice_index p k ≡ m → ⊥ = λ z. not (sym (inv.offset_of k kl) ∙ ap (λ i. (entry_at h i).offset) z ∙ off) in
-            among_at h h n m (slice_index p k) (slice_index p k) refl (λ a. below (slice_index p k) ne a) (λ a. omega arith)
-            ∙ sym (get_or-set_other (kept_entries h n p) o k None d not ∙ kept_entries_at h n p k d kl))
-          where
-            below : (q : ℕ) → (q ≡ m → ⊥) → q < n → q < m
-            below q ne a = omega (arith, ne)
+  pub hole_moves : Moved (filled h at e) (filled (filled h at x) to e) at to
+  hole_moves = (after_at ∙ sym before_to, after_to ∙ sym before_at, after_else)
 
-pub inverse_after_write : (h : List Entry) (p : List ℕ) (at : ℕ) (e : Entry) → AreInverse h p → at < length h → (entry_at h at).offset ≡ e.offset → AreInverse (set h at e) p
-inverse_after_write h p at e inv al off = record {
-  same_length = length-set h at e ∙ inv.same_length;
-  bounded = inv.bounded;
-  offset_within = λ i l. let il : i < length h = inside i l in rw (same i) (inv.offset_within i il);
-  position_of = λ i l. let il : i < length h = inside i l in rw (same i) (inv.position_of i il);
-  position_within = λ o l. rw (length-set h at e) (inv.position_within o l);
-  offset_of = λ o l. same (slice_index p o) ∙ inv.offset_of o l;
-}
-  where
-    inside : (i : ℕ) → i < length (set h at e) → i < length h
-    inside i l = let z = length-set h at e in omega arith
+  long : length (filled h at e) ≡ length h
+  long = length-set h at e
 
-    same : (i : ℕ) → (entry_at (set h at e) i).offset ≡ (entry_at h i).offset
-    same i = same_or i at
-        (λ is. ap (λ k. (entry_at (set h at e) k).offset) is ∙ ap (λ (x : Entry). x.offset) (get_or-set_same h at e nothing al) ∙ sym off ∙ ap (λ k. (entry_at h k).offset) (sym is))
-        (λ ne. ap (λ (x : Entry). x.offset) (get_or-set_other h at i e nothing ne))
+  pub long_after : length (filled (filled h at x) to e) ≡ length h
+  long_after = length-set (filled h at x) to e ∙ length-set h at x
 
--- an entry from behind the first n comes to be the last of the first n + 1
-pub kept_after_insert : (h h' : List Entry) (p p' : List ℕ) (n at : ℕ) (e : Entry) → SwappedAt h h' at n → AreInverse h p → AreInverse h' p' → length h' ≡ length h
-    → n ≤ at → at < length h → (entry_at h at).offset ≡ e.offset → set (kept_entries h' (n + 1) p') e.offset (Some e) ≡ set (kept_entries h n p) e.offset (Some e)
-kept_after_insert h h' p p' n at e sw inv inv' long behind al off =
-    let here : (entry_at h' n).offset ≡ e.offset = ap (λ (x : Entry). x.offset) (sw.1 nothing) ∙ off in
-    let moved = kept_after_swap h h' p p' n at n sw inv inv' long al (omega arith) (λ l. absurd (omega arith)) (λ l. absurd (omega arith)) in
-    let grown = kept_after_write h' p' n (n + 1) n e inv' (omega arith) (omega arith) here (λ q ne. ((λ l. omega arith), (λ l. closer q ne l))) in
-    let wide = kept_after_write h' p' (n + 1) (n + 1) n e inv' (omega arith) (omega arith) here (λ q _. ((λ l. l), (λ l. l))) in
-    sym wide ∙ grown ∙ ap (λ ks. set ks e.offset (Some e)) moved
-  where
-    closer : (q : ℕ) → (q ≡ n → ⊥) → q < n + 1 → q < n
-    closer q ne l = omega (arith, ne)
+  wide : length (told p at e) ≡ length p
+  wide = length-set p e.offset at
 
--- the entry at `at` goes behind the first n - 1
-pub kept_after_remove : (h h' : List Entry) (p p' : List ℕ) (n at : ℕ) → SwappedAt h h' at (n - 1) → AreInverse h p → AreInverse h' p' → length h' ≡ length h
-    → n ≤ length h → at < n → kept_entries h' (n - 1) p' ≡ set (kept_entries h n p) (entry_at h at).offset None
-kept_after_remove h h' p p' n at sw inv inv' long within al =
-    let moved = kept_after_swap h h' p p' n at (n - 1) sw inv inv' long (omega arith) (omega arith) (λ _. omega arith) (λ _. al) in
-    let here : (entry_at h' (n - 1)).offset ≡ (entry_at h at).offset = ap (λ (x : Entry). x.offset) (sw.1 nothing) in
-    kept_after_drop h' p' n (n - 1) (entry_at h at).offset inv' (omega arith) (omega arith) here ∙ ap (λ ks. set ks (entry_at h at).offset None) moved
+  wide_after : length (told (told p at x) to e) ≡ length p
+  wide_after = length-set (told p at x) e.offset to ∙ length-set p x.offset at
+
+  pub same_width : length (told (told p at x) to e) ≡ length (told p at e)
+  same_width = wide_after ∙ sym wide
+
+  e_within : e.offset < length p
+  e_within = let z = inv.offset_within at (omega (arith, long)) in omega (arith, ap (λ (y : Entry). y.offset) before_at, wide, z)
+
+  x_within : x.offset < length p
+  x_within = let z = inv.offset_within to (omega (arith, long)) in omega (arith, ap (λ (y : Entry). y.offset) before_to, wide, z)
+
+  told_e : slice_index (told p at e) e.offset ≡ at
+  told_e = get_or-set_same p e.offset at 0 e_within
+
+  told_x : slice_index (told p at e) x.offset ≡ to
+  told_x = ap (λ (y : Entry). slice_index (told p at e) y.offset) (sym before_to) ∙ inv.position_of to (omega (arith, long))
+
+  apart : x.offset ≡ e.offset → ⊥
+  apart z = ne (sym told_x ∙ ap (slice_index (told p at e)) z ∙ told_e)
+
+  now_e : slice_index (told (told p at x) to e) e.offset ≡ to
+  now_e = get_or-set_same (told p at x) e.offset to 0 (let z = length-set p x.offset at in let y = e_within in omega arith)
+
+  now_x : slice_index (told (told p at x) to e) x.offset ≡ at
+  now_x = get_or-set_other (told p at x) e.offset x.offset to 0 apart ∙ get_or-set_same p x.offset at 0 x_within
+
+  now_else : (o : ℕ) → (o ≡ e.offset → ⊥) → (o ≡ x.offset → ⊥) → slice_index (told (told p at x) to e) o ≡ slice_index (told p at e) o
+  now_else o noe nox = get_or-set_other (told p at x) e.offset o to 0 noe ∙ get_or-set_other p x.offset o at 0 nox ∙ sym (get_or-set_other p e.offset o at 0 noe)
+
+  new_offset : (k : ℕ) → k < length (filled (filled h at x) to e) → (entry_at (filled (filled h at x) to e) k).offset < length (told (told p at x) to e)
+  new_offset k kl = same_or k to
+      (λ kt. let z = ap (λ i. (entry_at (filled (filled h at x) to e) i).offset) kt ∙ ap (λ (y : Entry). y.offset) after_to in let w = e_within in omega (arith, wide_after, z, w))
+      (λ nt. same_or k at
+      (λ ka. let z = ap (λ i. (entry_at (filled (filled h at x) to e) i).offset) ka ∙ ap (λ (y : Entry). y.offset) after_at in let w = x_within in omega (arith, wide_after, z, w))
+      (λ na. let z = ap (λ (y : Entry). y.offset) (after_else k na nt) in let w = inv.offset_within k (omega (arith, long, long_after, kl)) in omega (arith, wide_after, wide, z, w)))
+
+  new_position : (k : ℕ) → k < length (filled (filled h at x) to e) → slice_index (told (told p at x) to e) (entry_at (filled (filled h at x) to e) k).offset ≡ k
+  new_position k kl = same_or k to
+      (λ kt. ap (λ i. slice_index (told (told p at x) to e) (entry_at (filled (filled h at x) to e) i).offset) kt ∙ ap (λ (y : Entry). slice_index (told (told p at x) to e) y.offset) after_to ∙ now_e ∙ sym kt)
+      (λ nt. same_or k at
+      (λ ka. ap (λ i. slice_index (told (told p at x) to e) (entry_at (filled (filled h at x) to e) i).offset) ka ∙ ap (λ (y : Entry). slice_index (told (told p at x) to e) y.offset) after_at ∙ now_x ∙ sym ka)
+      (λ na.
+      let pos : slice_index (told p at e) (entry_at (filled h at e) k).offset ≡ k = inv.position_of k (omega (arith, long, long_after, kl)) in
+      let noe : (entry_at (filled h at e) k).offset ≡ e.offset → ⊥ = λ z. na (sym pos ∙ ap (slice_index (told p at e)) z ∙ told_e) in
+      let nox : (entry_at (filled h at e) k).offset ≡ x.offset → ⊥ = λ z. nt (sym pos ∙ ap (slice_index (told p at e)) z ∙ told_x) in
+      ap (λ (y : Entry). slice_index (told (told p at x) to e) y.offset) (after_else k na nt) ∙ now_else (entry_at (filled h at e) k).offset noe nox ∙ pos))
+
+  new_entry : (o : ℕ) → o < length (told (told p at x) to e) → slice_index (told (told p at x) to e) o < length (filled (filled h at x) to e) → (entry_at (filled (filled h at x) to e) (slice_index (told (told p at x) to e) o)).offset ≡ o
+  new_entry o ol pl = same_or o e.offset
+      (λ oe. ap (λ k. (entry_at (filled (filled h at x) to e) k).offset) (ap (slice_index (told (told p at x) to e)) oe ∙ now_e) ∙ ap (λ (y : Entry). y.offset) after_to ∙ sym oe)
+      (λ noe. same_or o x.offset
+      (λ ox. ap (λ k. (entry_at (filled (filled h at x) to e) k).offset) (ap (slice_index (told (told p at x) to e)) ox ∙ now_x) ∙ ap (λ (y : Entry). y.offset) after_at ∙ sym ox)
+      (λ nox.
+      let q = now_else o noe nox in
+      let off : (entry_at (filled h at e) (slice_index (told p at e) o)).offset ≡ o = inv.offset_of o (omega (arith, wide, wide_after, ol)) (omega (arith, long, long_after, q, pl)) in
+      let na : slice_index (told p at e) o ≡ at → ⊥ = λ z. noe (sym off ∙ ap (λ k. (entry_at (filled h at e) k).offset) z ∙ ap (λ (y : Entry). y.offset) before_at) in
+      let nt : slice_index (told p at e) o ≡ to → ⊥ = λ z. nox (sym off ∙ ap (λ k. (entry_at (filled h at e) k).offset) z ∙ ap (λ (y : Entry). y.offset) before_to) in
+      ap (λ k. (entry_at (filled (filled h at x) to e) k).offset) q ∙ ap (λ (y : Entry). y.offset) (after_else (slice_index (told p at e) o) na nt) ∙ off))
+
+  new_absent : (o : ℕ) → o < length (told (told p at x) to e) → length (filled (filled h at x) to e) ≤ slice_index (told (told p at x) to e) o → slice_index (told (told p at x) to e) o ≡ nowhere
+  new_absent o ol past = same_or o e.offset
+      (λ oe. let z = ap (slice_index (told (told p at x) to e)) oe ∙ now_e in absurd (omega (arith, z, past, long_after, tl)))
+      (λ noe. same_or o x.offset
+      (λ ox. let z = ap (slice_index (told (told p at x) to e)) ox ∙ now_x in absurd (omega (arith, z, past, long_after, al)))
+      (λ nox. let q = now_else o noe nox in q ∙ inv.absent o (omega (arith, wide, wide_after, ol)) (omega (arith, long, long_after, q, past))))
+
+  pub inverse_moves : AreInverse (filled (filled h at x) to e) (told (told p at x) to e)
+  inverse_moves = record {
+    few = let z = inv.few in omega (arith, long, long_after, wide, wide_after, z);
+    bounded = let z = inv.bounded in omega (arith, wide, wide_after, z);
+    offset_within = new_offset;
+    position_of = new_position;
+    offset_of = new_entry;
+    absent = new_absent;
+  }
+
+  pub kept_moves : kept_with (filled h at x) (told p at x) to e ≡ kept_with h p at e
+  kept_moves =
+      let n = length h in
+      ap (λ m. kept_entries (filled (filled h at x) to e) m (told (told p at x) to e)) (length-set h at x)
+      ∙ kept_after_swap (filled h at e) (filled (filled h at x) to e) (told p at e) (told (told p at x) to e) n at to hole_moves inv inverse_moves long long_after same_width al tl

@@ -1,5 +1,5 @@
 -- The heap: entries in an order where none is before the one above it, and the position of each offset in it.
-use Rattle.std.specs.Prelude.{ℕ, ◌≡◌, ◌+◌, ◌-◌, ◌/◌, ◌<◌, ◌≤◌, ◌^◌, List, length, map, slice_index_or, slice_index, Option, Some, None, Bool, false, nat_lt, ◌==◌, ◌&&◌, ◌||◌, if◌then◌else◌}
+use Rattle.std.specs.Prelude.{ℕ, ◌≡◌, ◌+◌, ◌-◌, ◌/◌, ◌<◌, ◌≤◌, ◌^◌, List, length, map, slice_index_or, slice_index, slice_set, Option, Some, None, Bool, false, nat_lt, ◌==◌, ◌&&◌, ◌||◌, if◌then◌else◌}
 use Rattle.surf_kinds.specs.declared.event.Event.{Event}
 use Rattle.event_queue.specs.declared.entry.Entry.{Entry}
 use Rattle.event_queue.specs.Kept.{Kept}
@@ -37,14 +37,29 @@ pub record IsHeapBut (heap : List Entry) (n i : ℕ) : Type 0 where
 abbrev pub IsBelowParent : List Entry → ℕ → Type 0
 IsBelowParent heap i = 0 < i → precedes (entry_at heap i) (entry_at heap (parent i)) ≡ false
 
--- each offset stands at its position, and at each position stands an offset that has it
+-- no entry just below the one at i precedes it
+abbrev pub IsAboveOthers : List Entry → ℕ → ℕ → Type 0
+IsAboveOthers heap n i = (j : ℕ) → 0 < j → j < n → parent j ≡ i → precedes (entry_at heap j) (entry_at heap i) ≡ false
+
+-- the heap with an entry in the hole at a position, and the positions with that of its offset
+abbrev pub filled : List Entry → ℕ → Entry → List Entry
+filled heap at e = slice_set heap at e
+
+abbrev pub told : List ℕ → ℕ → Entry → List ℕ
+told positions at e = slice_set positions e.offset at
+
+-- the position of an offset that has no entry
+abbrev pub nowhere : ℕ
+nowhere = 4294967295
+
+-- each entry stands at the position of its offset, and an offset that stands nowhere has no entry
 pub record AreInverse (heap : List Entry) (positions : List ℕ) : Type 0 where
-  pub same_length : length heap ≡ length positions
+  pub few : length heap ≤ length positions
   pub bounded : length positions < 2 ^ 32
   pub offset_within : (i : ℕ) → i < length heap → (entry_at heap i).offset < length positions
   pub position_of : (i : ℕ) → i < length heap → slice_index positions (entry_at heap i).offset ≡ i
-  pub position_within : (o : ℕ) → o < length positions → slice_index positions o < length heap
-  pub offset_of : (o : ℕ) → o < length positions → (entry_at heap (slice_index positions o)).offset ≡ o
+  pub offset_of : (o : ℕ) → o < length positions → slice_index positions o < length heap → (entry_at heap (slice_index positions o)).offset ≡ o
+  pub absent : (o : ℕ) → o < length positions → length heap ≤ slice_index positions o → slice_index positions o ≡ nowhere
 
 -- the entry at a position, if it is one of the first n
 abbrev pub among : List Entry → ℕ → ℕ → Option Entry
@@ -53,6 +68,10 @@ among heap n p = if nat_lt p n then Some (entry_at heap p) else None
 -- for each offset its entry, if that is one of the first n
 abbrev pub kept_entries : List Entry → ℕ → List ℕ → List (Option Entry)
 kept_entries heap n positions = map (among heap n) positions
+
+-- the same with an entry in the hole at a position
+abbrev pub kept_with : List Entry → List ℕ → ℕ → Entry → List (Option Entry)
+kept_with heap positions at e = kept_entries (filled heap at e) (length heap) (told positions at e)
 
 -- the entry's event, if there is an entry
 abbrev pub event_if : ℕ → Option Entry → Option Event
@@ -63,9 +82,9 @@ event_if first (Some e) = Some (event_of first e)
 abbrev pub seen : ℕ → List Entry → ℕ → List ℕ → Kept
 seen first heap n positions = record { first = first; events = map (event_if first) (kept_entries heap n positions) }
 
--- what is true of every queue
-pub record IsSound (first : ℕ) (heap : List Entry) (n : ℕ) (positions : List ℕ) : Type 0 where
+-- what is true of every queue, whose heap has room for so many entries
+pub record IsSound (first : ℕ) (heap : List Entry) (room : ℕ) (positions : List ℕ) : Type 0 where
   pub places : first + length positions < 2 ^ 64
-  pub within : n ≤ length heap
+  pub room_for_all : length positions ≤ room
   pub inverse : AreInverse heap positions
-  pub ordered : IsHeap heap n
+  pub ordered : IsHeap heap (length heap)

@@ -1,158 +1,160 @@
 //! A heap of entries with the position of each offset in it.
 //!
-//! Each offset has an entry. The first `len` entries are the heap, and those of the other offsets stand behind it
-//! in any order, so an offset that comes into the heap changes places with the first of them.
+//! An entry that is put in its order starts in a hole: those that it passes move into the hole one after the
+//! other, and it is written once, where the hole ends.
 
-ghost use Rattle.std.specs.Prelude.{◌≡◌, ℕ, ◌+◌, ◌-◌, ◌^◌, ◌<◌, ◌≤◌, length, slice_set, Some, None, false};
-ghost use Rattle.std.specs.List.{SwappedAt};
-ghost use Rattle.event_queue.specs.Heap.{AreInverse, IsBelowParent, IsHeap, IsHeapBut, entry_at, kept_entries, parent, precedes};
+ghost use Rattle.std.specs.Prelude.{◌≡◌, ℕ, ◌+◌, ◌*◌, ◌^◌, ◌<◌, ◌≤◌, ◌⊎◌, length, true, false};
+ghost use Rattle.event_queue.specs.Heap.{AreInverse, IsAboveOthers, IsBelowParent, IsHeap, IsHeapBut, entry_at, filled, kept_entries, kept_with, parent, precedes, told};
 
 use crate::entry::Entry;
 
-/// Lets the entries at two positions change places.
+/// The position of an offset that has no entry.
+pub(crate) const NOWHERE: u32 = u32::MAX;
+
+/// Writes an entry at a position of the heap.
 #[inline]
-fn swap_entries(heap: &mut [Entry], positions: &mut [u32], i: usize, j: usize)
-    requires inverse { AreInverse heap.old positions.old }
-    requires i_within { i < length heap.old }
-    requires j_within { j < length heap.old }
-    ensures swapped { SwappedAt heap.old heap.new i j }
-    ensures inverse { AreInverse heap.new positions.new }
+fn put(heap: &mut [Entry], positions: &mut [u32], at: usize, entry: Entry)
+    requires at_within { at < length heap.old }
+    requires few { length heap.old < 2 ^ 32 }
+    requires offset_within { entry.offset < length positions.old }
+    ensures heap { heap.new ≡ filled heap.old at entry }
+    ensures positions { positions.new ≡ told positions.old at entry }
 {
-    heap.swap(i, j);
-    positions[heap[i].offset as usize] = i as u32;
-    positions[heap[j].offset as usize] = j as u32;
+    heap[at] = entry;
+    positions[entry.offset as usize] = at as u32;
 }
 
-/// Moves the entry at `from` up until it isn't before the one above it, and gives its position then.
-fn rise(heap: &mut [Entry], positions: &mut [u32], len: usize, from: usize) -> usize
-    requires inverse { AreInverse heap.old positions.old }
-    requires len_within { len ≤ length heap.old }
-    requires from_within { from < len }
-    requires heap { IsHeapBut heap.old len from }
-    ensures inverse { AreInverse heap.new positions.new }
-    ensures within { result < len }
-    ensures heap { IsHeapBut heap.new len result }
-    ensures above { IsBelowParent heap.new result }
-    ensures kept { kept_entries heap.new len positions.new ≡ kept_entries heap.old len positions.old }
+/// Moves the hole at `from` up until the entry above it may stand above this one, and gives its position then.
+fn rise(heap: &mut [Entry], positions: &mut [u32], from: usize, entry: Entry) -> usize
+    requires inverse { AreInverse (filled heap.old from entry) (told positions.old from entry) }
+    requires from_within { from < length heap.old }
+    requires heap { IsHeapBut (filled heap.old from entry) (length heap.old) from }
+    requires above { IsAboveOthers (filled heap.old from entry) (length heap.old) from }
+    ensures within { result < length heap.old }
+    ensures inverse { AreInverse (filled heap.new result entry) (told positions.new result entry) }
+    ensures heap { IsHeap (filled heap.new result entry) (length heap.old) }
+    ensures kept { kept_with heap.new positions.new result entry ≡ kept_with heap.old positions.old from entry }
 {
     let mut at = from;
     while at > 0 {
         let up = (at - 1) / 4;
-        if !heap[at].is_before(heap[up]) {
+        let over = heap[up];
+        if !entry.is_before(over) {
             return at;
         }
-        swap_entries(heap, positions, at, up);
+        put(heap, positions, at, over);
         at = up;
     }
     at
 }
 
-/// The position of the least entry below another, of which the first stands at `first`.
+/// The position of the lesser of two entries.
 #[inline]
-fn least_child(heap: &[Entry], len: usize, first: usize) -> usize
-    requires len_within { len ≤ length heap.now }
-    requires first_within { first < len }
-    requires room { len + 4 < 2 ^ 64 }
+fn lesser(heap: &[Entry], i: usize, j: usize) -> usize
+    requires i_within { i < length heap.now }
+    requires j_within { j < length heap.now }
+    ensures one { (result ≡ i) ⊎ (result ≡ j) }
+    ensures not_i { precedes (entry_at heap.now i) (entry_at heap.now result) ≡ false }
+    ensures not_j { precedes (entry_at heap.now j) (entry_at heap.now result) ≡ false }
+{
+    if heap[j].is_before(heap[i]) { j } else { i }
+}
+
+/// The position of the least of the last entries, which are fewer than four.
+fn least_of_last(heap: &[Entry], first: usize) -> usize
+    requires first_within { first < length heap.now }
     ensures from { first ≤ result }
-    ensures to { result < first + 4 }
-    ensures within { result < len }
-    ensures least { (k : ℕ) → first ≤ k → k < first + 4 → k < len → precedes (entry_at heap.now k) (entry_at heap.now result) ≡ false }
+    ensures within { result < length heap.now }
+    ensures least { (k : ℕ) → first ≤ k → k < length heap.now → precedes (entry_at heap.now k) (entry_at heap.now result) ≡ false }
 {
     let mut best = first;
-    let end = len.min(first + 4);
-    for other in first + 1..end {
-        if heap[other].is_before(heap[best]) {
-            best = other;
-        }
+    for other in first + 1..heap.len() {
+        best = lesser(heap, best, other);
     }
     best
 }
 
-/// Moves the entry at `from` down until none below it is before it.
-fn sink(heap: &mut [Entry], positions: &mut [u32], len: usize, from: usize)
-    requires inverse { AreInverse heap.old positions.old }
-    requires len_within { len ≤ length heap.old }
-    requires from_within { from < len }
-    requires heap { IsHeapBut heap.old len from }
-    requires above { IsBelowParent heap.old from }
-    ensures inverse { AreInverse heap.new positions.new }
-    ensures heap { IsHeap heap.new len }
-    ensures kept { kept_entries heap.new len positions.new ≡ kept_entries heap.old len positions.old }
+/// The position of the least entry below another, of which the first stands at `first`.
+#[inline]
+fn least_child(heap: &[Entry], first: usize) -> usize
+    requires first_within { first < length heap.now }
+    requires room { length heap.now + 4 < 2 ^ 64 }
+    ensures from { first ≤ result }
+    ensures to { result < first + 4 }
+    ensures within { result < length heap.now }
+    ensures least { (k : ℕ) → first ≤ k → k < first + 4 → k < length heap.now → precedes (entry_at heap.now k) (entry_at heap.now result) ≡ false }
+{
+    if first + 3 >= heap.len() {
+        return least_of_last(heap, first);
+    }
+    let low = lesser(heap, first, first + 1);
+    let high = lesser(heap, first + 2, first + 3);
+    lesser(heap, low, high)
+}
+
+/// Moves the hole at `from` down until no entry below it is before this one, and gives its position then.
+fn sink(heap: &mut [Entry], positions: &mut [u32], from: usize, entry: Entry) -> usize
+    requires inverse { AreInverse (filled heap.old from entry) (told positions.old from entry) }
+    requires from_within { from < length heap.old }
+    requires heap { IsHeapBut (filled heap.old from entry) (length heap.old) from }
+    requires below { IsBelowParent (filled heap.old from entry) from }
+    ensures within { result < length heap.old }
+    ensures inverse { AreInverse (filled heap.new result entry) (told positions.new result entry) }
+    ensures heap { IsHeap (filled heap.new result entry) (length heap.old) }
+    ensures kept { kept_with heap.new positions.new result entry ≡ kept_with heap.old positions.old from entry }
 {
     let mut at = from;
-    while at * 4 + 1 < len {
-        let child = least_child(heap, len, at * 4 + 1);
-        if !heap[child].is_before(heap[at]) {
-            return;
+    while at * 4 + 1 < heap.len() {
+        let child = least_child(heap, at * 4 + 1);
+        let least = heap[child];
+        if !least.is_before(entry) {
+            return at;
         }
-        swap_entries(heap, positions, at, child);
+        put(heap, positions, at, least);
         at = child;
     }
+    at
 }
 
-/// Moves the entry at `at`, the only one that may be out of order, to where it belongs.
-fn settle(heap: &mut [Entry], positions: &mut [u32], len: usize, at: usize)
-    requires inverse { AreInverse heap.old positions.old }
-    requires len_within { len ≤ length heap.old }
-    requires at_within { at < len }
-    requires heap { IsHeapBut heap.old len at }
-    ensures inverse { AreInverse heap.new positions.new }
-    ensures heap { IsHeap heap.new len }
-    ensures kept { kept_entries heap.new len positions.new ≡ kept_entries heap.old len positions.old }
+/// Whether the entry has to stand above the one that is above the hole.
+#[inline]
+fn goes_up(heap: &[Entry], hole: usize, entry: Entry) -> bool
+    requires { hole < length heap.now }
+    ensures up { result ≡ true → (0 < hole) × (precedes entry (entry_at heap.now (parent hole)) ≡ true) }
+    ensures stays { result ≡ false → 0 < hole → precedes entry (entry_at heap.now (parent hole)) ≡ false }
 {
-    let risen = rise(heap, positions, len, at);
-    sink(heap, positions, len, risen);
-}
-
-/// Puts an entry in the place of that of the same offset, which stands at `at` in the heap and may be out of order.
-pub(crate) fn replace(
-    heap: &mut [Entry],
-    positions: &mut [u32],
-    len: usize,
-    at: usize,
-    entry: Entry,
-)
-    requires inverse { AreInverse heap.old positions.old }
-    requires len_within { len ≤ length heap.old }
-    requires at_within { at < len }
-    requires heap { IsHeapBut heap.old len at }
-    requires offset { (entry_at heap.old at).offset ≡ entry.offset }
-    ensures inverse { AreInverse heap.new positions.new }
-    ensures heap { IsHeap heap.new len }
-    ensures kept { kept_entries heap.new len positions.new ≡ slice_set (kept_entries heap.old len positions.old) entry.offset (Some entry) }
-{
-    heap[at] = entry;
-    settle(heap, positions, len, at);
-}
-
-/// Takes an entry into a heap of `len`, where its offset stands at `at` behind the heap.
-pub(crate) fn insert(heap: &mut [Entry], positions: &mut [u32], len: usize, at: usize, entry: Entry)
-    requires inverse { AreInverse heap.old positions.old }
-    requires at_behind { len ≤ at }
-    requires at_within { at < length heap.old }
-    requires heap { IsHeap heap.old len }
-    requires offset { (entry_at heap.old at).offset ≡ entry.offset }
-    ensures inverse { AreInverse heap.new positions.new }
-    ensures heap { IsHeap heap.new (len + 1) }
-    ensures kept { kept_entries heap.new (len + 1) positions.new ≡ slice_set (kept_entries heap.old len positions.old) entry.offset (Some entry) }
-{
-    swap_entries(heap, positions, at, len);
-    replace(heap, positions, len + 1, len, entry);
-}
-
-/// Takes the entry at `at` out of a heap of `len`, to the place behind the heap that is left.
-pub(crate) fn remove(heap: &mut [Entry], positions: &mut [u32], len: usize, at: usize)
-    requires inverse { AreInverse heap.old positions.old }
-    requires len_within { len ≤ length heap.old }
-    requires at_within { at < len }
-    requires heap { IsHeap heap.old len }
-    ensures inverse { AreInverse heap.new positions.new }
-    ensures heap { IsHeap heap.new (len - 1) }
-    ensures kept { kept_entries heap.new (len - 1) positions.new ≡ slice_set (kept_entries heap.old len positions.old) (entry_at heap.old at).offset None }
-{
-    let last = len - 1;
-    swap_entries(heap, positions, at, last);
-    if at < last {
-        settle(heap, positions, last, at);
+    if hole == 0 {
+        return false;
     }
+    entry.is_before(heap[(hole - 1) / 4])
+}
+
+/// Moves the hole to where the entry belongs, and gives its position then.
+fn hole_for(heap: &mut [Entry], positions: &mut [u32], hole: usize, entry: Entry) -> usize
+    requires inverse { AreInverse (filled heap.old hole entry) (told positions.old hole entry) }
+    requires hole_within { hole < length heap.old }
+    requires heap { IsHeapBut (filled heap.old hole entry) (length heap.old) hole }
+    ensures within { result < length heap.old }
+    ensures inverse { AreInverse (filled heap.new result entry) (told positions.new result entry) }
+    ensures heap { IsHeap (filled heap.new result entry) (length heap.old) }
+    ensures kept { kept_with heap.new positions.new result entry ≡ kept_with heap.old positions.old hole entry }
+{
+    if goes_up(heap, hole, entry) {
+        rise(heap, positions, hole, entry)
+    } else {
+        sink(heap, positions, hole, entry)
+    }
+}
+
+/// Puts an entry where it belongs, in a heap that is in order but for a hole.
+pub(crate) fn settle(heap: &mut [Entry], positions: &mut [u32], hole: usize, entry: Entry)
+    requires inverse { AreInverse (filled heap.old hole entry) (told positions.old hole entry) }
+    requires hole_within { hole < length heap.old }
+    requires heap { IsHeapBut (filled heap.old hole entry) (length heap.old) hole }
+    ensures inverse { AreInverse heap.new positions.new }
+    ensures heap { IsHeap heap.new (length heap.old) }
+    ensures kept { kept_entries heap.new (length heap.old) positions.new ≡ kept_with heap.old positions.old hole entry }
+{
+    let at = hole_for(heap, positions, hole, entry);
+    put(heap, positions, at, entry);
 }

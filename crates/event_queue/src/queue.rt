@@ -5,8 +5,8 @@ ghost use Rattle.event_queue.specs.Kept.{HasPlace, IsLeast, KeepsNone, kept_at, 
 ghost use Rattle.event_queue.specs.Heap.{entry_at};
 
 use crate::entry::Entry;
-use crate::heap::{insert, remove, replace};
-use std::alloc::{AllocError, Global};
+use crate::heap::{NOWHERE, settle};
+use std::alloc::Global;
 use std::marker::Model;
 use surf_kinds::{Event, NoMemory, Place};
 
@@ -14,48 +14,21 @@ use surf_kinds::{Event, NoMemory, Place};
 #[derive(Drop)]
 pub struct Queue {
     first: u64,
+    // has room for an entry of each offset, of which only those that were needed were ever touched
     heap: Vec<Entry>,
-    len: usize,
     positions: Vec<u32>,
 }
 
 impl Model for Queue {
     ghost use Rattle.event_queue.specs.Kept.{Kept};
     ghost use Rattle.event_queue.specs.Heap.{IsSound, seen};
+    ghost use Rattle.std.specs.Prelude.{length, vec_capacity};
 
     ghost Value = { Kept };
 
-    ghost view = { λ q. seen q.first q.heap.items q.len q.positions.items };
+    ghost view = { λ q. seen q.first q.heap.items (length q.heap.items) q.positions.items };
 
-    ghost invariant = { λ q. IsSound q.first q.heap.items q.len q.positions.items };
-}
-
-/// An entry for each offset below `count`, in their order.
-fn entries_in_order(alloc: Global, count: u32) -> Result<Vec<Entry>, AllocError>
-    ensures length { IfOk result (λ v. length v.items ≡ count) }
-    ensures offsets { IfOk result (λ v. (i : ℕ) → i < count → (entry_at v.items i).offset ≡ i) }
-{
-    let mut entries = Vec::with_capacity(alloc, count as usize)?;
-    for offset in 0..count {
-        entries.push(Entry {
-            time: 0,
-            offset,
-            channel: 0,
-        })?;
-    }
-    Ok(entries)
-}
-
-/// The numbers below `count`, in their order.
-fn positions_in_order(alloc: Global, count: u32) -> Result<Vec<u32>, AllocError>
-    ensures length { IfOk result (λ v. length v.items ≡ count) }
-    ensures positions { IfOk result (λ v. (i : ℕ) → i < count → slice_index v.items i ≡ i) }
-{
-    let mut positions = Vec::with_capacity(alloc, count as usize)?;
-    for offset in 0..count {
-        positions.push(offset)?;
-    }
-    Ok(positions)
+    ghost invariant = { λ q. IsSound q.first q.heap.items (vec_capacity q.heap) q.positions.items };
 }
 
 impl Queue {
@@ -64,16 +37,15 @@ impl Queue {
         requires { first.0 + count < 2 ^ 64 }
         ensures { IfOk result (λ q. q ≡ record { first = first.0; events = replicate count None }) }
     {
-        let Ok(heap) = entries_in_order(alloc, count) else {
+        let Ok(heap) = Vec::with_capacity(alloc, count as usize) else {
             return Err(NoMemory);
         };
-        let Ok(positions) = positions_in_order(alloc, count) else {
+        let Ok(positions) = vec![in alloc; NOWHERE; count as usize] else {
             return Err(NoMemory);
         };
         Ok(Queue {
             first: first.0,
             heap,
-            len: 0,
             positions,
         })
     }
@@ -102,11 +74,12 @@ impl Queue {
             offset,
             channel: event.channel,
         };
-        if at < self.len {
-            replace(&mut self.heap, &mut self.positions, self.len, at, entry);
+        let end = self.heap.len();
+        if at < end {
+            settle(&mut self.heap, &mut self.positions, at, entry);
         } else {
-            insert(&mut self.heap, &mut self.positions, self.len, at, entry);
-            self.len += 1;
+            self.heap.push_reserved(entry);
+            settle(&mut self.heap, &mut self.positions, end, entry);
         }
     }
 
@@ -114,10 +87,15 @@ impl Queue {
         requires { HasPlace self.old place }
         ensures { self.new ≡ record { first = self.old.first; events = slice_set self.old.events (place.0 - self.old.first) None } }
     {
-        let at = self.positions[(place.0 - self.first) as usize] as usize;
-        if at < self.len {
-            remove(&mut self.heap, &mut self.positions, self.len, at);
-            self.len -= 1;
+        let offset = (place.0 - self.first) as usize;
+        let at = self.positions[offset] as usize;
+        if at < self.heap.len() {
+            self.positions[offset] = NOWHERE;
+            if let Some(moved) = self.heap.pop() {
+                if at < self.heap.len() {
+                    settle(&mut self.heap, &mut self.positions, at, moved);
+                }
+            }
         }
     }
 
@@ -129,7 +107,7 @@ impl Queue {
         ensures place { IfSome result (λ e. e.place ≡ place) }
     {
         let at = self.positions[(place.0 - self.first) as usize] as usize;
-        if at < self.len {
+        if at < self.heap.len() {
             Some(self.heap[at].event(self.first))
         } else {
             None
@@ -142,7 +120,7 @@ impl Queue {
         ensures least { MatchOption result (KeepsNone self.now) (λ e. IsLeast self.now e) }
         ensures earliest { result ≡ least_among self.now.events (length self.now.events) }
     {
-        if self.len == 0 {
+        if self.heap.len() == 0 {
             None
         } else {
             Some(self.heap[0].event(self.first))

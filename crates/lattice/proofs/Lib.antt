@@ -11,3 +11,4 @@ pub mod AfterSite
 pub mod Rank
 pub mod Seven
 pub mod Pinned
+pub mod With

@@ -1,7 +1,7 @@
 //! The lattice and its sites.
 
-ghost use Rattle.std.specs.Prelude.{◌≡◌, ◌≤◌, ◌<◌, ◌*◌, ◌%◌, ◌^◌, ◌⊎◌, ◌↔◌, IfOk, Err, take};
-ghost use Rattle.lattice.specs.Places.{ArePlacesOf, behind, neighbour, wraps as wraps_at, sites_of as sites_of_place};
+ghost use Rattle.std.specs.Prelude.{◌≡◌, ◌≤◌, ◌<◌, ◌*◌, ◌%◌, ◌^◌, ◌⊎◌, ◌↔◌, IfOk, Err, Some, take};
+ghost use Rattle.lattice.specs.Places.{ArePlacesOf, HasSite, behind, neighbour, wraps as wraps_at, sites_of as sites_of_place};
 ghost use Rattle.lattice.specs.declared.grid.SizeFault.TheVariants.{NoSites, TooManySites};
 
 use crate::place_list::PlaceList;
@@ -83,6 +83,7 @@ impl Lattice {
         self.wrap
     }
 
+    #[inline]
     pub fn rows(&self) -> u32
         ensures rows { result ≡ self.now.rows }
         ensures at_least { 1 ≤ result }
@@ -91,6 +92,7 @@ impl Lattice {
         self.rows
     }
 
+    #[inline]
     pub fn cols(&self) -> u32
         ensures cols { result ≡ self.now.cols }
         ensures at_least { 1 ≤ result }
@@ -100,6 +102,7 @@ impl Lattice {
     }
 
     /// The number of sites.
+    #[inline]
     pub fn site_count(&self) -> u32
         ensures count { result ≡ self.now.rows * self.now.cols }
         ensures at_least { 1 ≤ result }
@@ -109,6 +112,7 @@ impl Lattice {
     }
 
     /// The sites of a place, or `None` where the number is no place.
+    #[inline]
     #[tactic(auto, unfolding(crate::specs::Places::sites_of))]
     pub fn sites_of(&self, place: Place) -> Option<Sites>
         ensures { result ≡ sites_of_place self.now place.0 }
@@ -118,23 +122,39 @@ impl Lattice {
         }
         let site = (place.0 / 8) as u32;
         let first = SiteId(site);
-        let second = match place.0 % 8 {
-            0 => return Some(Sites {
+        if place.0 % 8 == 0 {
+            return Some(Sites {
                 first,
                 second: None,
-            }),
-            1 => self.east(site, site % self.cols),
-            2 => self.south(site),
-            3 => self.south_west(site, site % self.cols),
-            _ => None,
-        };
-        match second {
+            });
+        }
+        match self.beside(site, place.0 % 8) {
             None => None,
-            Some(_) => Some(Sites { first, second }),
+            second => Some(Sites { first, second }),
+        }
+    }
+
+    /// The sites of a place that is known to have this site. As `sites_of`, with less to do.
+    #[inline]
+    pub fn sites_with(&self, place: Place, site: SiteId) -> Sites
+        requires { HasSite self.now place.0 site.0 }
+        ensures { Some result ≡ sites_of_place self.now place.0 }
+    {
+        prove!(self.rows >= 1);
+        let first = (place.0 / 8) as u32;
+        let second = if first == site.0 {
+            self.beside(first, place.0 % 8)
+        } else {
+            Some(site)
+        };
+        Sites {
+            first: SiteId(first),
+            second,
         }
     }
 
     /// Every place that has the site, rising.
+    #[inline]
     pub fn places_of(&self, site: SiteId) -> PlaceList
         requires { site.0 < self.now.rows * self.now.cols }
         ensures places { ArePlacesOf self.now site.0 (take result.count result.list) }
@@ -155,12 +175,28 @@ impl Lattice {
     }
 
     /// Whether a step past an edge comes in at the other one, in a dimension of this size.
+    #[inline]
     fn wraps(&self, size: u32) -> bool
         ensures { result ≡ wraps_at self.now.wrap size }
     {
         self.wrap && size >= 3
     }
 
+    /// The site that a step of a pair leads to.
+    #[inline]
+    fn beside(&self, site: u32, step: u64) -> Option<SiteId>
+        requires { site < self.now.rows * self.now.cols }
+        ensures { result ≡ neighbour self.now site step }
+    {
+        match step {
+            1 => self.east(site, site % self.cols),
+            2 => self.south(site),
+            3 => self.south_west(site, site % self.cols),
+            _ => None,
+        }
+    }
+
+    #[inline]
     fn east(&self, site: u32, col: u32) -> Option<SiteId>
         requires site { site < self.now.rows * self.now.cols }
         requires col { col ≡ site % self.now.cols }
@@ -177,6 +213,7 @@ impl Lattice {
     }
 
     // A row is `cols` sites, so this needs no division.
+    #[inline]
     fn south(&self, site: u32) -> Option<SiteId>
         requires site { site < self.now.rows * self.now.cols }
         ensures { result ≡ neighbour self.now site 2 }
@@ -191,6 +228,7 @@ impl Lattice {
         }
     }
 
+    #[inline]
     fn west(&self, site: u32, col: u32) -> Option<SiteId>
         requires site { site < self.now.rows * self.now.cols }
         requires col { col ≡ site % self.now.cols }
@@ -205,6 +243,7 @@ impl Lattice {
         }
     }
 
+    #[inline]
     fn south_west(&self, site: u32, col: u32) -> Option<SiteId>
         requires site { site < self.now.rows * self.now.cols }
         requires col { col ≡ site % self.now.cols }
@@ -219,6 +258,7 @@ impl Lattice {
         }
     }
 
+    #[inline]
     fn north(&self, site: u32) -> Option<SiteId>
         requires site { site < self.now.rows * self.now.cols }
         ensures { result ≡ behind self.now site 2 }
@@ -232,6 +272,7 @@ impl Lattice {
         }
     }
 
+    #[inline]
     fn north_east(&self, site: u32, col: u32) -> Option<SiteId>
         requires site { site < self.now.rows * self.now.cols }
         requires col { col ≡ site % self.now.cols }

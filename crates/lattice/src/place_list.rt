@@ -13,6 +13,7 @@ pub struct PlaceList {
 }
 
 impl PlaceList {
+    #[inline]
     pub(crate) fn new() -> PlaceList
         ensures { result.count ≡ 0 }
     {
@@ -23,6 +24,7 @@ impl PlaceList {
     }
 
     /// Puts a place between the lower ones and the higher ones.
+    #[inline]
     pub(crate) fn insert(&mut self, place: Place)
         requires room { self.old.count < 7 }
         requires rising { Rise self.old.list self.old.count }
@@ -41,6 +43,7 @@ impl PlaceList {
         self.count += 1;
     }
     /// Puts the site's place by this step in, where there is a site.
+    #[inline]
     pub(crate) fn add(&mut self, site: Option<SiteId>, step: u64)
         requires room { self.old.count < 7 }
         requires step { step < 8 }

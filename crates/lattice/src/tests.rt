@@ -35,6 +35,16 @@ fn a_column_of_three_wraps(rt: HostRuntime) -> Result<(), Fail> {
 }
 
 #[test]
+fn a_pair_is_found_from_both_its_sites(rt: HostRuntime) -> Result<(), Fail> {
+    let lattice = Lattice::new(Kind::Square, 3, 1, true)?;
+    let sites = lattice.sites_of(Place(18)).ok_or("no place")?;
+    assert_eq!(rt; lattice.sites_with(Place(18), sites.first), sites);
+    let second = sites.second.ok_or("one site alone")?;
+    assert_eq!(rt; lattice.sites_with(Place(18), second), sites);
+    Ok(())
+}
+
+#[test]
 fn three_by_three_hexagons_have_their_pairs(rt: HostRuntime) -> Result<(), Fail> {
     let wrapped = Lattice::new(Kind::Hex, 3, 3, true)?;
     assert_eq!(rt; places_by(&wrapped, 1), 9);

@@ -1,15 +1,17 @@
--- What holds of a surface after an event of it.
+-- What holds of a first surface, and of a surface after an event of it.
 use Rattle.std.proofs.Common.{◌≡◌, ℕ, ◌+◌, ◌*◌, ◌^◌, ◌<◌, ◌≤◌, List, Option, Some, None, ◌⊎◌, inl, inr, refl, sym, ap, ◌∙◌, subst, arith, rules, get_or}
 use Rattle.std.specs.Prelude.{slice_get, All}
+use Rattle.std.proofs.lemmas.List.Elements.{All-map}
 use Rattle.std.proofs.lemmas.Option.{same_Some}
 use Rattle.surf_kinds.specs.declared.rule.Rule.{Rule}
 use Rattle.surf_kinds.specs.declared.site.SiteId.{SiteId}
 use Rattle.surf_kinds.specs.declared.site.Sites.{Sites}
 use Rattle.surf_kinds.specs.declared.site.SiteState.{SiteState}
+use Rattle.surf_kinds.specs.declared.site.SpeciesId.{SpeciesId}
 use Rattle.surf_kinds.specs.declared.event.Event.{Event}
 use Rattle.lattice.specs.Shape.{Shape}
 use Rattle.lattice.specs.Places.{sites_of, IsAmong, HasSite}
-use Rattle.lattice.specs.Surface.{after}
+use Rattle.lattice.specs.Surface.{fresh, first_surface, after}
 use Rattle.lattice.proofs.AfterSite.{after_site}
 use Rattle.plan.specs.Network.{Network}
 use Rattle.plan.specs.Next.{next, next_of_sites}
@@ -27,6 +29,10 @@ open_site s h = record { version = omega (arith, h.version, h.last); last = h.la
 
 pub open_all : (sites : List SiteState) → All IsSettled sites → All IsOpen sites
 open_all sites h k d inside = open_site (get_or sites k d) (h k d inside)
+
+-- a first surface was never rewritten
+pub first_settled : (cells : List SpeciesId) → All IsSettled (first_surface cells)
+first_settled cells = All-map IsSettled fresh cells (λ k d h. record { version = omega arith; last = omega arith })
 
 -- the event comes after the last rewriting of each of its sites
 earlier_at : (sites : List SiteState) (p : Sites) (time k : ℕ) (old : SiteState) → IsEarlier sites time (Some p.first) → IsEarlier sites time p.second → IsAmong k p → slice_get sites k ≡ Some old → old.last < time

@@ -12,7 +12,6 @@ use Rattle.event_queue.specs.Kept.{Kept}
 use Rattle.lattice.specs.Shape.{Shape}
 use Rattle.lattice.specs.Places.{HasSite, ArePlacesOf}
 use Rattle.lattice.specs.Rising.{number_at}
-use Rattle.lattice.proofs.Laws.{place_below}
 use Rattle.plan.specs.Network.{Network}
 use Rattle.plan.specs.Next.{next}
 use Rattle.plan.proofs.Offers.{of_place}
@@ -41,11 +40,9 @@ right_here n sites q place o h =
     ap (λ i. slice_index_or (set q.events i (next n.lattice n.seed n.rules sites place)) place None) at
     ∙ get_or-set_same q.events place (next n.lattice n.seed n.rules sites place) None (omega (arith, h, o.count))
 
--- each place in the list of a site's places is one of the lattice
-pub listed_below : (l : Shape) (s : ℕ) (places : List Place) (k : ℕ) → ArePlacesOf l s places → k < length places → number_at places k < 8 * (l.rows * l.cols)
-listed_below l s places k are lt =
-    let has : HasSite l (number_at places k) s = (are.exactly (number_at places k)).1 (k, lt, get_or_default places k (record { 0 = number_at places k }) (record { 0 = 0 }) lt) in
-    place_below l (number_at places k) has.sites has.is
+-- each place in the list of a site's places has the site
+pub listed_has : (l : Shape) (s : ℕ) (places : List Place) (k : ℕ) → ArePlacesOf l s places → k < length places → HasSite l (number_at places k) s
+listed_has l s places k are lt = (are.exactly (number_at places k)).1 (k, lt, get_or_default places k (record { 0 = number_at places k }) (record { 0 = 0 }) lt)
 
 -- the first places of a list have their next events, and now one more
 pub set_more : (n : Network) (sites : List SiteState) (q r : Kept) (places : List Place) (i k : ℕ) → IsRight n sites r (number_at places i) → ((j : ℕ) → IsRight n sites q j → IsRight n sites r j)

@@ -70,6 +70,13 @@ impl Engine {
         }
     }
 
+    /// The rules that it runs by.
+    pub fn plan(&self) -> &Plan
+        ensures { result.now ≡ self.now.network }
+    {
+        &self.plan
+    }
+
     /// What stands at the sites, and the counts of species.
     pub fn surface(&self) -> &Surface
         ensures surface { result.now ≡ self.now.surface }

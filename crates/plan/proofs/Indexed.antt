@@ -11,36 +11,36 @@ use Rattle.surf_kinds.specs.declared.site.SpeciesId.{SpeciesId}
 use Rattle.surf_kinds.specs.declared.event.Event.{Event}
 use Rattle.surf_kinds.specs.Keys.{earlier}
 use Rattle.lattice.specs.Channels.{stands, rate_of}
-use Rattle.plan.specs.Next.{next_upto, offer, armed, species_of}
+use Rattle.plan.specs.Next.{next_upto, offer, armed, species_of, occurrence, latest}
 use Rattle.plan.specs.declared.index.Reactants.{Reactants}
 use Rattle.plan.specs.declared.index.Channel.{Channel}
 use Rattle.plan.specs.Index.{channel_if, channel_at, channels_upto, reactants_at, IsChannel, armed_by, earliest_after}
 
-pub earliest_after-append : (seed place : ℕ) (s : SiteState) (t : Option SiteState) (best : Option Event) (xs ys : List Channel) → earliest_after seed place s t best (xs ++ ys) ≡ earliest_after seed place s t (earliest_after seed place s t best xs) ys
-earliest_after-append seed place s t best [] ys = refl
-earliest_after-append seed place s t best (x ∷ xs) ys = earliest_after-append seed place s t (earlier best (Some (armed_by seed place s t x))) xs ys
+pub earliest_after-append : (seed place o from : ℕ) (best : Option Event) (xs ys : List Channel) → earliest_after seed place o from best (xs ++ ys) ≡ earliest_after seed place o from (earliest_after seed place o from best xs) ys
+earliest_after-append seed place o from best [] ys = refl
+earliest_after-append seed place o from best (x ∷ xs) ys = earliest_after-append seed place o from (earlier best (Some (armed_by seed place o from x))) xs ys
 
 earlier-none : (best : Option Event) → best ≡ earlier best None
 earlier-none None = refl
 earlier-none (Some x) = refl
 
 -- one rule in one way
-one_way : (seed place : ℕ) (s : SiteState) (t : Option SiteState) (best : Option Event) (number way : ℕ) (o : Option Rule) → earliest_after seed place s t best (channel_at (reactants_at s t) number way o) ≡ earlier best (offer seed place s t number way o)
+one_way : (seed place : ℕ) (s : SiteState) (t : Option SiteState) (best : Option Event) (number way : ℕ) (o : Option Rule) → earliest_after seed place (occurrence s t) (latest s t) best (channel_at (reactants_at s t) number way o) ≡ earlier best (offer seed place s t number way o)
 one_way seed place s t best number way None = earlier-none best
 one_way seed place s t best number way (Some rule) = by (stands rule way s.species (species_of t))
   where
-    by : (b : Bool) → earliest_after seed place s t best (channel_if b number rule) ≡ earlier best (if b then Some (armed seed place s t number rule) else None)
+    by : (b : Bool) → earliest_after seed place (occurrence s t) (latest s t) best (channel_if b number rule) ≡ earlier best (if b then Some (armed seed place s t number rule) else None)
     by true = refl
     by false = earlier-none best
 
 -- the earliest of the channels of the first n rules is the next event by these rules
-pub earliest-channels : (seed : ℕ) (rules : List Rule) (place : ℕ) (s : SiteState) (t : Option SiteState) (n : ℕ) → earliest_after seed place s t None (channels_upto rules (reactants_at s t) n) ≡ next_upto seed rules place s t n
+pub earliest-channels : (seed : ℕ) (rules : List Rule) (place : ℕ) (s : SiteState) (t : Option SiteState) (n : ℕ) → earliest_after seed place (occurrence s t) (latest s t) None (channels_upto rules (reactants_at s t) n) ≡ next_upto seed rules place s t n
 earliest-channels seed rules place s t zero = refl
 earliest-channels seed rules place s t (suc n) =
-    earliest_after-append seed place s t None (channels_upto rules (reactants_at s t) n ++ channel_at (reactants_at s t) (2 * n) 0 (slice_get rules n)) (channel_at (reactants_at s t) (2 * n + 1) 1 (slice_get rules n))
-    ∙ (ap (λ best. earliest_after seed place s t best (channel_at (reactants_at s t) (2 * n + 1) 1 (slice_get rules n)))
-    (earliest_after-append seed place s t None (channels_upto rules (reactants_at s t) n) (channel_at (reactants_at s t) (2 * n) 0 (slice_get rules n))
-    ∙ (ap (λ best. earliest_after seed place s t best (channel_at (reactants_at s t) (2 * n) 0 (slice_get rules n))) (earliest-channels seed rules place s t n)
+    earliest_after-append seed place (occurrence s t) (latest s t) None (channels_upto rules (reactants_at s t) n ++ channel_at (reactants_at s t) (2 * n) 0 (slice_get rules n)) (channel_at (reactants_at s t) (2 * n + 1) 1 (slice_get rules n))
+    ∙ (ap (λ best. earliest_after seed place (occurrence s t) (latest s t) best (channel_at (reactants_at s t) (2 * n + 1) 1 (slice_get rules n)))
+    (earliest_after-append seed place (occurrence s t) (latest s t) None (channels_upto rules (reactants_at s t) n) (channel_at (reactants_at s t) (2 * n) 0 (slice_get rules n))
+    ∙ (ap (λ best. earliest_after seed place (occurrence s t) (latest s t) best (channel_at (reactants_at s t) (2 * n) 0 (slice_get rules n))) (earliest-channels seed rules place s t n)
     ∙ one_way seed place s t (next_upto seed rules place s t n) (2 * n) 0 (slice_get rules n)))
     ∙ one_way seed place s t (earlier (next_upto seed rules place s t n) (offer seed place s t (2 * n) 0 (slice_get rules n))) (2 * n + 1) 1 (slice_get rules n))
 

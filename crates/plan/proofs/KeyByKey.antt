@@ -17,7 +17,8 @@ use Rattle.surf_kinds.specs.Keys.{is_before, earlier, RiseFrom, RiseStrictly}
 use Rattle.plan.specs.Next.{next, next_both, next_second, next_of_sites, least_upto, least}
 use Rattle.plan.specs.History.{within, due, history, IsHistory, IsIn, below, room, first_events}
 use Rattle.plan.proofs.Offers.{either, OfSurface, of_sites, of_place, IsEarlier}
-use Rattle.plan.proofs.Writes.{IsAt, IsSecond, is_second, rewrite_same, rewrite_other, second_same, second_at, second_other}
+use Rattle.lattice.proofs.Writes.{rewrite_other}
+use Rattle.plan.proofs.Writes.{IsAt, IsSecond, is_second, rewrite_same, second_same, second_at, second_other}
 use Rattle.plan.proofs.Keys.{Before, NotBefore, tells}
 use Rattle.plan.proofs.Steps.{of_due, within_is, after_is, one, two, after_one, none_or_some, room_falls, full}
 

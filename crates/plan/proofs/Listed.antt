@@ -1,158 +1,143 @@
--- Lists of channels that are found by their reactants.
-use Rattle.std.proofs.Common.{◌≡◌, ℕ, suc, ◌+◌, ◌<◌, ◌≤◌, List, [], ◌∷◌, ◌++◌, length, Option, Some, None, Bool, true, false, cond, refl, sym, ap, ◌∙◌, arith, set, get_or, not, inl, inr, ◌⊎◌}
-use Rattle.std.specs.Prelude.{position, if◌then◌else◌, ◌||◌, ◌&&◌, ◌==◌, nat_lt}
-use Rattle.std.specs.List.{list_any, position_or_len}
+-- Lists of channels that are found by the species beside them.
+use Rattle.std.proofs.Common.{◌≡◌, ◌≢◌, ℕ, zero, suc, ◌<◌, ◌≤◌, List, [], ◌∷◌, ◌++◌, length, cond, refl, sym, ap, ◌∙◌, arith, set, get_or, slice_index, inl, inr, Option, Some, None, Ok, Err, nat_cmp}
+use mathlib.Core.Logic.{⊎_elim}
+use Rattle.std.specs.Prelude.{◌==◌, slice_get}
+use Rattle.std.specs.List.{insert}
 use Rattle.std.specs.Global.{Vec}
-use Rattle.std.proofs.lemmas.Option.{none-some, same_Some}
-use Rattle.std.proofs.lemmas.Bool.Decides.{nat_tests}
-use Rattle.std.proofs.lemmas.Bool.{leb-true}
+use Rattle.std.proofs.lemmas.Bool.{cases_lt}
+use Rattle.std.proofs.lemmas.Bool.Decides.{eqb_tells}
+use Rattle.std.proofs.lemmas.List.Sorted.{searched}
+use Rattle.std.specs.List.Sorted.{IsBinarySearchResult}
 use Rattle.surf_kinds.specs.declared.site.SpeciesId.{SpeciesId}
-use Rattle.plan.specs.declared.index.Reactants.{Reactants}
 use Rattle.plan.specs.declared.index.Channel.{Channel}
-use Rattle.plan.specs.Index.{same, is_equal, listed}
+use Rattle.plan.specs.declared.index.Row.{Row}
+use Rattle.plan.specs.Index.{listed, same_species, found_in_row, found_at, IsRow, IsPlaceFor}
 
--- the code's equality is that of the fields
-pub equal_same : (r k : Reactants) → is_equal r k ≡ same r k
-equal_same r k = by r.second k.second
-  where
-    by : (s t : Option SpeciesId) → is_equal (record { first = r.first; second = s }) (record { first = k.first; second = t }) ≡ same (record { first = r.first; second = s }) (record { first = k.first; second = t })
-    by None None = refl
-    by None (Some t) = refl
-    by (Some s) None = refl
-    by (Some s) (Some t) = refl
+same_number : (k s : ℕ) (xs ys : List Channel) → k ≡ s → cond (k == s) xs ys ≡ xs
+same_number k s xs ys h = elim (eqb_tells k s) [ inl p ↦ ap (λ b. cond b xs ys) p.0 | inr p ↦ absurd (p.1 h) ]
 
-not_both : (t : Bool) → t ≡ true → t ≡ false → ⊥
-not_both t h k = cc
+other_number : (k s : ℕ) (xs ys : List Channel) → k ≢ s → cond (k == s) xs ys ≡ ys
+other_number k s xs ys h = elim (eqb_tells k s) [ inl p ↦ absurd (h p.1) | inr p ↦ ap (λ b. cond b xs ys) p.0 ]
 
-pub bool_cases : (b : Bool) → (b ≡ true) ⊎ (b ≡ false)
-bool_cases true = inl refl
-bool_cases false = inr refl
+-- what stands beside the species is what is listed
+pub listed-at : (ks : List ℕ) (vs : List (Vec Channel)) (i s : ℕ) (d : Vec Channel) → length vs ≡ length ks → i < length ks → slice_index ks i ≡ s → ((j : ℕ) → j < i → slice_index ks j ≢ s) → listed ks vs s ≡ (get_or vs i d).items
+listed-at [] vs i s d e l is before = absurd (omega (arith, l))
+listed-at (k ∷ ks) [] i s d e l is before = absurd (omega (arith, e))
+listed-at (k ∷ ks) (v ∷ vs) zero s d e l is before = same_number k s v.items (listed ks vs s) is
+listed-at (k ∷ ks) (v ∷ vs) (suc i) s d e l is before =
+    other_number k s v.items (listed ks vs s) (before 0 (omega arith))
+    ∙ listed-at ks vs i s d (omega (arith, e)) (omega (arith, l)) is (λ j h. before (suc j) (omega (arith, h)))
 
--- the place of the first key that is the same
-pub place-here : (test : Reactants → Bool) (x : Reactants) (xs : List Reactants) → test x ≡ true → position_or_len test (x ∷ xs) ≡ 0
-place-here test x xs h = ap (λ b. cond (not b) (1 + position_or_len test xs) 0) h
+-- nothing is listed where no species is that one
+pub listed-none : (ks : List ℕ) (vs : List (Vec Channel)) (s : ℕ) → ((j : ℕ) → j < length ks → slice_index ks j ≢ s) → listed ks vs s ≡ []
+listed-none [] vs s h = refl
+listed-none (k ∷ ks) [] s h = refl
+listed-none (k ∷ ks) (v ∷ vs) s h = other_number k s v.items (listed ks vs s) (h 0 (omega arith)) ∙ listed-none ks vs s (λ j l. h (suc j) (omega (arith, l)))
 
-pub place-later : (test : Reactants → Bool) (x : Reactants) (xs : List Reactants) → test x ≡ false → position_or_len test (x ∷ xs) ≡ suc (position_or_len test xs)
-place-later test x xs h =
-    let e : position_or_len test (x ∷ xs) ≡ 1 + position_or_len test xs = ap (λ b. cond (not b) (1 + position_or_len test xs) 0) h in
-    omega (arith, e)
+-- what is listed where one species has a new list
+abbrev pub with_list : ℕ → List Channel → ℕ → List Channel → List Channel
+with_list s new q old = cond (q == s) new old
 
--- what stands at that place is what is listed
-pub listed-at : (r : Reactants) (ks : List Reactants) (vs : List (Vec Channel)) (v : Vec Channel) → length vs ≡ length ks → position_or_len (is_equal r) ks < length ks → listed ks vs r ≡ (get_or vs (position_or_len (is_equal r) ks) v).items
-listed-at r [] vs v e h = absurd (omega (arith, h))
-listed-at r (k ∷ ks) [] v e h = absurd (omega (arith, e))
-listed-at r (k ∷ ks) (w ∷ ws) v e h =
-    elim (bool_cases (same r k)) [
-      | inl p ↦
-          let place = place-here (is_equal r) k ks (equal_same r k ∙ p) in
-          ap (λ b. cond b w.items (listed ks ws r)) p ∙ sym (ap (λ i. (get_or (w ∷ ws) i v).items) place)
-      | inr p ↦
-          let place = place-later (is_equal r) k ks (equal_same r k ∙ p) in
-          ap (λ b. cond b w.items (listed ks ws r)) p ∙ (listed-at r ks ws v (omega (arith, e)) (omega (arith, h, place)) ∙ sym (ap (λ i. (get_or (w ∷ ws) i v).items) place))
-    ]
+head_new : (k s q : ℕ) (new old rest : List Channel) → k ≡ s → cond (k == q) new rest ≡ with_list s new q (cond (k == q) old rest)
+head_new k s q new old rest h = elim (eqb_tells q s) [
+  | inl p ↦ same_number k q new rest (h ∙ sym p.1) ∙ sym (ap (λ b. cond b new (cond (k == q) old rest)) p.0)
+  | inr p ↦
+      let apart : k ≢ q = λ z. p.1 (sym z ∙ h) in
+      other_number k q new rest apart ∙ sym (ap (λ b. cond b new (cond (k == q) old rest)) p.0 ∙ other_number k q old rest apart)
+]
 
--- nothing is listed where no key is the same
-pub listed-none : (r : Reactants) (ks : List Reactants) (vs : List (Vec Channel)) → length ks ≤ position_or_len (is_equal r) ks → listed ks vs r ≡ []
-listed-none r [] vs h = refl
-listed-none r (k ∷ ks) [] h = refl
-listed-none r (k ∷ ks) (w ∷ ws) h =
-    elim (bool_cases (same r k)) [
-      | inl p ↦ absurd (omega (arith, h, place-here (is_equal r) k ks (equal_same r k ∙ p)))
-      | inr p ↦ ap (λ b. cond b w.items (listed ks ws r)) p ∙ listed-none r ks ws (omega (arith, h, place-later (is_equal r) k ks (equal_same r k ∙ p)))
-    ]
+tail_new : (k s q : ℕ) (new here rest : List Channel) → k ≢ s → cond (k == q) here (with_list s new q rest) ≡ with_list s new q (cond (k == q) here rest)
+tail_new k s q new here rest h = elim (eqb_tells q s) [
+  | inl p ↦
+      let apart : k ≢ q = λ z. h (z ∙ p.1) in
+      other_number k q here (with_list s new q rest) apart ∙ (ap (λ b. cond b new rest) p.0 ∙ sym (ap (λ b. cond b new (cond (k == q) here rest)) p.0))
+  | inr p ↦ ap (λ b. cond (k == q) here (cond b new rest)) p.0 ∙ sym (ap (λ b. cond b new (cond (k == q) here rest)) p.0)
+]
 
--- a position is the place, where that is within the list
-pub position-Some_place : (test : Reactants → Bool) (ks : List Reactants) (i : ℕ) → Some i ≡ position test ks → (i ≡ position_or_len test ks) × (position_or_len test ks < length ks)
-position-Some_place test ks i h =
-    elim (bool_cases (nat_lt (position_or_len test ks) (length ks))) [
-      | inl p ↦ (same_Some _ _ (h ∙ ap (λ b. cond b (Some (position_or_len test ks)) None) p), leb-true (suc (position_or_len test ks)) (length ks) p)
-      | inr p ↦ absurd (none-some i (sym (h ∙ ap (λ b. cond b (Some (position_or_len test ks)) None) p)))
-    ]
+pub listed-set : (ks : List ℕ) (vs : List (Vec Channel)) (i s : ℕ) (w : Vec Channel) → length vs ≡ length ks → i < length ks → slice_index ks i ≡ s → ((j : ℕ) → j < i → slice_index ks j ≢ s) → (q : ℕ) → listed ks (set vs i w) q ≡ with_list s w.items q (listed ks vs q)
+listed-set [] vs i s w e l is before q = absurd (omega (arith, l))
+listed-set (k ∷ ks) [] i s w e l is before q = absurd (omega (arith, e))
+listed-set (k ∷ ks) (v ∷ vs) zero s w e l is before q = head_new k s q w.items v.items (listed ks vs q) is
+listed-set (k ∷ ks) (v ∷ vs) (suc i) s w e l is before q =
+    ap (cond (k == q) v.items) (listed-set ks vs i s w (omega (arith, e)) (omega (arith, l)) is (λ j h. before (suc j) (omega (arith, h))) q)
+    ∙ tail_new k s q w.items v.items (listed ks vs q) (before 0 (omega arith))
 
-pub position-None_place : (test : Reactants → Bool) (ks : List Reactants) → None ≡ position test ks → length ks ≤ position_or_len test ks
-position-None_place test ks h =
-    elim (bool_cases (nat_lt (position_or_len test ks) (length ks))) [
-      | inl p ↦ absurd (none-some (position_or_len test ks) (h ∙ ap (λ b. cond b (Some (position_or_len test ks)) None) p))
-      | inr p ↦ grind (arith, nat_tests, p)
-    ]
+-- what is listed once that list has one channel more
+abbrev pub with_more : ℕ → Channel → ℕ → List Channel → List Channel
+with_more s c q old = cond (q == s) (old ++ c ∷ []) old
 
--- the same reactants are equal
-pub same-equal : (r k : Reactants) → same r k ≡ true → r ≡ k
-same-equal r k h = by r.second k.second h
-  where
-    first_is : (a b : ℕ) (t : Bool) → (a == b && t) ≡ true → (a ≡ b) × (t ≡ true)
-    first_is a b t h = (grind (arith, nat_tests, h), grind (arith, nat_tests, h))
+more : (ks : List ℕ) (vs : List (Vec Channel)) (s q : ℕ) (new : List Channel) (c : Channel) → new ≡ listed ks vs s ++ c ∷ [] → with_list s new q (listed ks vs q) ≡ with_more s c q (listed ks vs q)
+more ks vs s q new c is = elim (eqb_tells q s) [
+  | inl p ↦ ap (λ b. cond b new (listed ks vs q)) p.0 ∙ (is ∙ (ap (λ n. listed ks vs n ++ c ∷ []) (sym p.1) ∙ sym (ap (λ b. cond b (listed ks vs q ++ c ∷ []) (listed ks vs q)) p.0)))
+  | inr p ↦ ap (λ b. cond b new (listed ks vs q)) p.0 ∙ sym (ap (λ b. cond b (listed ks vs q ++ c ∷ []) (listed ks vs q)) p.0)
+]
 
-    by : (s t : Option SpeciesId) → same (record { first = r.first; second = s }) (record { first = k.first; second = t }) ≡ true → ◌≡◌ {A = Reactants} (record { first = r.first; second = s }) (record { first = k.first; second = t })
-    by None None h = ap (λ (n : ℕ). record { first = record { 0 = n }; second = None }) (first_is r.first.0 k.first.0 true h).0
-    by None (Some t) h = absurd (not_both false (first_is r.first.0 k.first.0 false h).1 refl)
-    by (Some s) None h = absurd (not_both false (first_is r.first.0 k.first.0 false h).1 refl)
-    by (Some s) (Some t) h =
-        let p = first_is r.first.0 k.first.0 (s.0 == t.0) h in
-        let q : s.0 ≡ t.0 = grind (arith, nat_tests, p.1) in
-        ap (λ (n : ℕ). record { first = record { 0 = n }; second = Some s }) p.0 ∙ ap (λ (n : ℕ). record { first = k.first; second = Some (record { 0 = n }) }) q
+first_new : (s q : ℕ) (new rest : List Channel) → cond (s == q) new rest ≡ with_list s new q rest
+first_new s q new rest = elim (eqb_tells q s) [
+  | inl p ↦ same_number s q new rest (sym p.1) ∙ sym (ap (λ b. cond b new rest) p.0)
+  | inr p ↦ other_number s q new rest (λ z. p.1 (sym z)) ∙ sym (ap (λ b. cond b new rest) p.0)
+]
 
--- what is listed once the list of r has one channel more
-abbrev pub with_more : Reactants → Channel → Reactants → List Channel → List Channel
-with_more r c q old = if same q r then old ++ c ∷ [] else old
+pub listed-insert : (ks : List ℕ) (vs : List (Vec Channel)) (i s : ℕ) (w : Vec Channel) → length vs ≡ length ks → i ≤ length ks → ((j : ℕ) → j < i → slice_index ks j ≢ s) → (q : ℕ) → listed (insert ks i s) (insert vs i w) q ≡ with_list s w.items q (listed ks vs q)
+listed-insert ks vs zero s w e l before q = first_new s q w.items (listed ks vs q)
+listed-insert [] vs (suc i) s w e l before q = absurd (omega (arith, l))
+listed-insert (k ∷ ks) [] (suc i) s w e l before q = absurd (omega (arith, e))
+listed-insert (k ∷ ks) (v ∷ vs) (suc i) s w e l before q =
+    ap (cond (k == q) v.items) (listed-insert ks vs i s w (omega (arith, e)) (omega (arith, l)) (λ j h. before (suc j) (omega (arith, h))) q)
+    ∙ tail_new k s q w.items v.items (listed ks vs q) (before 0 (omega arith))
 
-joined : (t : Bool) (c : Channel) (items rest : List Channel) → cond t (items ++ c ∷ []) rest ≡ cond t (cond t items rest ++ c ∷ []) (cond t items rest)
-joined true c items rest = refl
-joined false c items rest = refl
+-- what is found in a row by a search among its second species
+module _ (r : Row) (row : IsRow r) (k s : ℕ) where
+  weakly : (i j : ℕ) → i ≤ j → j < length r.seconds.items → slice_index r.seconds.items i ≤ slice_index r.seconds.items j
+  weakly i j h l = elim (eqb_tells i j) [
+    | inl p ↦ omega (arith, ap (slice_index r.seconds.items) p.1)
+    | inr p ↦ omega (arith, row.rising i j (omega (arith, h, p.1)) l)
+  ]
 
-apart : (s t : Bool) (c : Channel) (items old : List Channel) → (s ≡ true → t ≡ true → ⊥) → cond s items (cond t (old ++ c ∷ []) old) ≡ cond t (cond s items old ++ c ∷ []) (cond s items old)
-apart true true c items old h = absurd (h refl refl)
-apart true false c items old h = refl
-apart false true c items old h = refl
-apart false false c items old h = refl
+  earlier_less : k < length r.seconds.items → slice_index r.seconds.items k ≡ s → (j : ℕ) → j < k → slice_index r.seconds.items j ≢ s
+  earlier_less l is j h z = absurd (omega (arith, row.rising j k h l, is, z))
 
--- reactants that are the same as r are not the same as k, which r isn't
-never_both : (q r k : Reactants) → same r k ≡ false → same q k ≡ true → same q r ≡ true → ⊥
-never_both q r k other s t = not_both (same q k) s (ap (λ (x : Reactants). same x k) (same-equal q r t) ∙ other)
+  pub is_there : IsBinarySearchResult (λ y. nat_cmp y s) r.seconds.items (Ok k) → (k < length r.seconds.items) × (slice_index r.seconds.items k ≡ s)
+  is_there h = searched r.seconds.items s (Ok k) h weakly
 
--- where the reactants were there
-pub listed-set : (r : Reactants) (c : Channel) (ks : List Reactants) (vs : List (Vec Channel)) (w d : Vec Channel) → length vs ≡ length ks → position_or_len (is_equal r) ks < length ks → w.items ≡ (get_or vs (position_or_len (is_equal r) ks) d).items ++ c ∷ [] → (q : Reactants) → listed ks (set vs (position_or_len (is_equal r) ks) w) q ≡ with_more r c q (listed ks vs q)
-listed-set r c [] vs w d e h is q = absurd (omega (arith, h))
-listed-set r c (k ∷ ks) [] w d e h is q = absurd (omega (arith, e))
-listed-set r c (k ∷ ks) (v ∷ vs) w d e h is q =
-    elim (bool_cases (same r k)) [
-      | inl p ↦
-          let equal = same-equal r k p in
-          let place = place-here (is_equal r) k ks (equal_same r k ∙ p) in
-          let more : w.items ≡ v.items ++ c ∷ [] = is ∙ ap (λ i. (get_or (v ∷ vs) i d).items ++ c ∷ []) place in
-          ap (λ i. listed (k ∷ ks) (set (v ∷ vs) i w) q) place
-          ∙ (ap (λ xs. cond (same q k) xs (listed ks vs q)) more
-          ∙ (joined (same q k) c v.items (listed ks vs q)
-          ∙ ap (λ (x : Reactants). cond (same q x) (cond (same q k) v.items (listed ks vs q) ++ c ∷ []) (cond (same q k) v.items (listed ks vs q))) (sym equal)))
-      | inr p ↦
-          let place = place-later (is_equal r) k ks (equal_same r k ∙ p) in
-          let deep = listed-set r c ks vs w d (omega (arith, e)) (omega (arith, h, place)) (is ∙ ap (λ i. (get_or (v ∷ vs) i d).items ++ c ∷ []) place) q in
-          ap (λ i. listed (k ∷ ks) (set (v ∷ vs) i w) q) place
-          ∙ (ap (λ xs. cond (same q k) v.items xs) deep
-          ∙ apart (same q k) (same q r) c v.items (listed ks vs q) (never_both q r k p))
-    ]
+  pub is_place : IsBinarySearchResult (λ y. nat_cmp y s) r.seconds.items (Err k) → IsPlaceFor r.seconds.items k s
+  is_place h = let p = searched r.seconds.items s (Err k) h weakly in record { within = p.0; below = p.1; above = p.2 }
 
--- where they were not there, and went last
-pub listed-push : (r : Reactants) (c : Channel) (ks : List Reactants) (vs : List (Vec Channel)) (w : Vec Channel) → length vs ≡ length ks → length ks ≤ position_or_len (is_equal r) ks → w.items ≡ c ∷ [] → (q : Reactants) → listed (ks ++ r ∷ []) (vs ++ w ∷ []) q ≡ with_more r c q (listed ks vs q)
-listed-push r c [] [] w e h is q = ap (λ xs. cond (same q r) xs []) is
-listed-push r c [] (v ∷ vs) w e h is q = absurd (omega (arith, e))
-listed-push r c (k ∷ ks) [] w e h is q = absurd (omega (arith, e))
-listed-push r c (k ∷ ks) (v ∷ vs) w e h is q =
-    elim (bool_cases (same r k)) [
-      | inl p ↦ absurd (omega (arith, h, place-here (is_equal r) k ks (equal_same r k ∙ p)))
-      | inr p ↦
-          let deep = listed-push r c ks vs w (omega (arith, e)) (omega (arith, h, place-later (is_equal r) k ks (equal_same r k ∙ p))) is q in
-          ap (λ xs. cond (same q k) v.items xs) deep
-          ∙ apart (same q k) (same q r) c v.items (listed ks vs q) (never_both q r k p)
-    ]
+  pub found_there : (d : Vec Channel) → IsBinarySearchResult (λ y. nat_cmp y s) r.seconds.items (Ok k) → listed r.seconds.items r.pairs.items s ≡ (get_or r.pairs.items k d).items
+  found_there d h =
+      let at = is_there h in
+      listed-at r.seconds.items r.pairs.items k s d row.paired at.0 at.1 (earlier_less at.0 at.1)
 
--- no key passes, so the place is past them all
-pub any-none_place : (test : Reactants → Bool) (ks : List Reactants) → list_any test ks ≡ false → length ks ≤ position_or_len test ks
-any-none_place test [] h = omega arith
-any-none_place test (k ∷ ks) h =
-    elim (bool_cases (test k)) [
-      | inl p ↦ absurd (not_both (list_any test (k ∷ ks)) (ap (λ b. b || list_any test ks) p) h)
-      | inr p ↦
-          let deep : list_any test ks ≡ false = sym (ap (λ b. b || list_any test ks) p) ∙ h in
-          omega (arith, any-none_place test ks deep, place-later test k ks p)
-    ]
+  not_there : IsPlaceFor r.seconds.items k s → (j : ℕ) → j < length r.seconds.items → slice_index r.seconds.items j ≢ s
+  not_there p j l z = ⊎_elim (λ jk. absurd (omega (arith, p.below j jk, z))) (λ kj. absurd (omega (arith, p.above j kj l, z))) (cases_lt j k)
+
+  pub found_nothing : IsPlaceFor r.seconds.items k s → listed r.seconds.items r.pairs.items s ≡ []
+  found_nothing p = listed-none r.seconds.items r.pairs.items s (not_there p)
+
+  -- a list with one channel more at k
+  pub put_there : (w d : Vec Channel) (c : Channel) → IsBinarySearchResult (λ y. nat_cmp y s) r.seconds.items (Ok k) → w.items ≡ (get_or r.pairs.items k d).items ++ c ∷ []
+      → (q : ℕ) → listed r.seconds.items (set r.pairs.items k w) q ≡ with_more s c q (listed r.seconds.items r.pairs.items q)
+  put_there w d c h is q =
+      let at = is_there h in
+      listed-set r.seconds.items r.pairs.items k s w row.paired at.0 at.1 (earlier_less at.0 at.1) q
+      ∙ more r.seconds.items r.pairs.items s q w.items c (is ∙ ap (λ xs. xs ++ c ∷ []) (sym (found_there d h)))
+
+  -- and the first one
+  pub put_first : (w : Vec Channel) (c : Channel) → IsPlaceFor r.seconds.items k s → w.items ≡ c ∷ []
+      → (q : ℕ) → listed (insert r.seconds.items k s) (insert r.pairs.items k w) q ≡ with_more s c q (listed r.seconds.items r.pairs.items q)
+  put_first w c p is q =
+      listed-insert r.seconds.items r.pairs.items k s w row.paired p.within (λ j jk z. absurd (omega (arith, p.below j jk, z))) q
+      ∙ more r.seconds.items r.pairs.items s q w.items c (is ∙ ap (λ xs. xs ++ c ∷ []) (sym (found_nothing p)))
+
+-- a row that has one channel more for a second species
+pub row_added : (r r' : Row) (s : ℕ) (c : Channel) → r'.alone.items ≡ r.alone.items → ((q : ℕ) → listed r'.seconds.items r'.pairs.items q ≡ with_more s c q (listed r.seconds.items r.pairs.items q))
+    → (o : Option SpeciesId) → found_in_row r' o ≡ cond (same_species o (Some (record { 0 = s }))) (found_in_row r o ++ c ∷ []) (found_in_row r o)
+row_added r r' s c alone h None = alone
+row_added r r' s c alone h (Some q) = h q.0
+
+-- an empty row behind the others
+pub rows_grown : (rows : List Row) (r : Row) → ((o : Option SpeciesId) → found_in_row r o ≡ []) → (f : ℕ) (o : Option SpeciesId) → found_at (slice_get (rows ++ r ∷ []) f) o ≡ found_at (slice_get rows f) o
+rows_grown [] r h zero o = h o
+rows_grown [] r h (suc f) o = refl
+rows_grown (x ∷ xs) r h zero o = refl
+rows_grown (x ∷ xs) r h (suc f) o = rows_grown xs r h f o

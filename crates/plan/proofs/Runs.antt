@@ -2,6 +2,7 @@
 use Rattle.std.proofs.Common.{◌≡◌, ℕ, ◌+◌, ◌^◌, ◌<◌, ◌≤◌, List, [], ◌∷◌, ◌++◌, length, Option, Some, None, refl, sym, ap, ◌∙◌, append_assoc, append-nil, arith, subst, inl, get_or}
 use Rattle.std.specs.Prelude.{All, IfSome, IsSome, slice_get}
 use Rattle.std.specs.Option.{option_map_or}
+use Rattle.std.proofs.lemmas.List.{length_push}
 use Rattle.std.proofs.lemmas.Option.{none-some, same_Some, slice_get_within, slice_get-get_or}
 use Rattle.surf_kinds.specs.declared.rule.Rule.{Rule}
 use Rattle.surf_kinds.specs.declared.site.SiteState.{SiteState}
@@ -60,10 +61,6 @@ history_due l seed rules until sites e h = history_step l seed rules until sites
 pub history_none : (l : Shape) (seed : ℕ) (rules : List Rule) (until : ℕ) (sites : List SiteState) → due l seed rules until sites ≡ None → history l seed rules until sites ≡ []
 history_none l seed rules until sites h = history_step l seed rules until sites ∙ ap (λ o. option_map_or (λ x. x ∷ history l seed rules until (after l rules sites x)) o []) h
 
-length-snoc : (es : List Event) (e : Event) → length (es ++ e ∷ []) ≡ length es + 1
-length-snoc [] e = refl
-length-snoc (x ∷ xs) e = let deep : length (xs ++ e ∷ []) ≡ length xs + 1 = length-snoc xs e in omega (arith, deep)
-
 pub run_step : (l : Shape) (seed : ℕ) (rules : List Rule) (until : ℕ) (start now : List SiteState) (done : List Event) (e : Event) → Run l seed rules until start now done → due l seed rules until now ≡ Some e → Run l seed rules until start (after l rules now e) (done ++ e ∷ [])
 run_step l seed rules until start now done e r h =
     let d = of_due l seed rules until now e h in
@@ -72,7 +69,7 @@ run_step l seed rules until start now done e r h =
     record {
       history_is = r.history_is ∙ (ap (λ es. done ++ es) (history_due l seed rules until now e h) ∙ sym (append_assoc done (e ∷ []) (history l seed rules until (after l rules now e))));
       surface = ap (λ s. after l rules s e) r.surface ∙ after_all-snoc l rules start done e;
-      room_left = omega (arith, r.room_left, falls, length-snoc done e);
+      room_left = omega (arith, r.room_left, falls, length_push done e);
       size = after_length l rules now e ∙ r.size;
       time = e.time;
       place = e.place.0;

@@ -1,5 +1,5 @@
 -- What an event leaves at each site.
-use Rattle.std.proofs.Common.{◌≡◌, ◌≢◌, ℕ, zero, suc, ◌+◌, ◌-◌, ◌<◌, ◌≤◌, List, [], ◌∷◌, length, Option, Some, None, ◌⊎◌, inl, inr, refl, sym, ap, ◌∙◌, subst, arith, set, get_or}
+use Rattle.std.proofs.Common.{◌≡◌, ℕ, ◌+◌, ◌-◌, ◌<◌, ◌≤◌, List, length, Option, Some, None, ◌⊎◌, inl, inr, refl, sym, ap, ◌∙◌, subst, arith, set, get_or}
 use Rattle.std.specs.Prelude.{slice_get}
 use Rattle.std.specs.List.{sum_by}
 use Rattle.std.proofs.lemmas.Option.{slice_get_within, get_or_from_slice_get}
@@ -9,28 +9,13 @@ use Rattle.surf_kinds.specs.declared.site.SiteId.{SiteId}
 use Rattle.surf_kinds.specs.declared.site.SiteState.{SiteState}
 use Rattle.surf_kinds.specs.declared.site.SpeciesId.{SpeciesId}
 use Rattle.lattice.specs.Surface.{rewritten, rewrite, rewrite_second}
+use Rattle.lattice.proofs.Writes.{get_same, rewrite_other}
 use Rattle.plan.specs.History.{room}
 use Rattle.plan.proofs.Offers.{IsEarlier}
-
-pub get_other : (xs : List SiteState) (i j : ℕ) (s : SiteState) → j ≢ i → slice_get (set xs i s) j ≡ slice_get xs j
-get_other [] i j s h = refl
-get_other (x ∷ xs) zero zero s h = absurd (h refl)
-get_other (x ∷ xs) zero (suc j) s h = refl
-get_other (x ∷ xs) (suc i) zero s h = refl
-get_other (x ∷ xs) (suc i) (suc j) s h = get_other xs i j s (λ e. h (ap (λ n. suc n) e))
-
-pub get_same : (xs : List SiteState) (i : ℕ) (s : SiteState) → i < length xs → slice_get (set xs i s) i ≡ Some s
-get_same [] i s h = absurd (omega (arith, h))
-get_same (x ∷ xs) zero s h = refl
-get_same (x ∷ xs) (suc i) s h = get_same xs i s (omega (arith, h))
 
 -- a site that was rewritten at this tick
 abbrev pub IsAt : List SiteState → ℕ → ℕ → Type 0
 IsAt sites k time = (s : SiteState) × (slice_get sites k ≡ Some s) × (s.last ≡ time)
-
-pub rewrite_other : (product : SpeciesId → SpeciesId) (time i : ℕ) (o : Option SiteState) (sites : List SiteState) (k : ℕ) → k ≢ i → slice_get (rewrite product time i o sites) k ≡ slice_get sites k
-rewrite_other product time i None sites k h = refl
-rewrite_other product time i (Some s) sites k h = get_other sites i k _ h
 
 pub rewrite_is : (product : SpeciesId → SpeciesId) (time i : ℕ) (sites : List SiteState) (s : SiteState) → slice_get sites i ≡ Some s → rewrite product time i (slice_get sites i) sites ≡ set sites i (rewritten (product s.species) time s)
 rewrite_is product time i sites s h = ap (λ o. rewrite product time i o sites) h

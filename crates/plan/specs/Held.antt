@@ -3,10 +3,10 @@ use Rattle.std.specs.Prelude.{◌≡◌, ◌≤◌, List, length}
 use Rattle.surf_kinds.specs.declared.rule.Rule.{Rule}
 use Rattle.plan.specs.declared.index.Reactants.{Reactants}
 use Rattle.plan.specs.declared.index.Index.{Index}
-use Rattle.plan.specs.Index.{channels_of, found_in}
+use Rattle.plan.specs.Index.{channels_of, found_in, AreRows}
 
 -- the index has the channels of these rules
 pub record IsIndexed (rules : List Rule) (i : Index) : Type 0 where
   pub few : length rules ≤ 4096
-  pub paired : length i.channels.items ≡ length i.reactants.keys
+  pub rows : AreRows i
   pub found : (r : Reactants) → found_in i r ≡ channels_of rules r

@@ -2,12 +2,11 @@
 
 ghost use Rattle.std.specs.Prelude.{◌≡◌, ◌++◌, ◌∷◌, [], OnOk, IfOk, map, length, position};
 
-use indexmap::IndexSet;
 use std::alloc::Global;
 use surf_kinds::{NoMemory, Rate, Rule, SpeciesId};
 
 /// What stands at the sites of a place.
-#[derive(Clone, Copy, Debug, PartialEq, Eq, Hash)]
+#[derive(Clone, Copy, Debug, PartialEq, Eq)]
 pub(crate) struct Reactants {
     pub(crate) first: SpeciesId,
     pub(crate) second: Option<SpeciesId>,
@@ -20,81 +19,171 @@ pub(crate) struct Channel {
     pub(crate) rate: Rate,
 }
 
-/// The channels of each reactants, in the order in which they were added.
+/// The channels of the places whose first site holds one species.
 #[derive(Drop)]
-pub(crate) struct Index {
-    reactants: IndexSet<Reactants>,
-    channels: Vec<Vec<Channel>>,
+struct Row {
+    // of the site alone
+    alone: Vec<Channel>,
+    // the species of the second sites, rising, and the channels beside each
+    seconds: Vec<u16>,
+    pairs: Vec<Vec<Channel>>,
 }
 
-impl Index {
-    ghost use Rattle.plan.specs.Index.{found_in, same, is_equal, channel_at};
-    ghost use Rattle.std.specs.List.{list_any};
-    ghost use Rattle.plan.specs.declared.index.Reactants.{Reactants};
-    ghost use Rattle.std.specs.Prelude.{◌≡◌, ◌++◌, ◌∷◌, [], ◌+◌, ◌<◌, ◌&&◌, nat_lt, false, OnOk, Some, length, if◌then◌else◌};
+impl Row {
+    ghost use Rattle.plan.specs.Index.{found_in_row, same_species, IsRow, IsPlaceFor};
+    ghost use Rattle.surf_kinds.specs.declared.site.SpeciesId.{SpeciesId};
+    ghost use Rattle.std.specs.Prelude.{◌≡◌, ◌++◌, ◌∷◌, [], OnOk, Option, Some, if◌then◌else◌};
 
-    pub(crate) fn new(alloc: Global) -> Index
-        ensures paired { length result.channels.items ≡ length result.reactants.keys }
-        ensures none { (r : Reactants) → found_in result r ≡ [] }
+    fn new(alloc: Global) -> Row
+        ensures row { IsRow result }
+        ensures none { (s : Option SpeciesId) → found_in_row result s ≡ [] }
     {
-        Index {
-            reactants: IndexSet::new(alloc),
-            channels: Vec::new(alloc),
+        Row {
+            alone: Vec::new(alloc),
+            seconds: Vec::new(alloc),
+            pairs: Vec::new(alloc),
         }
     }
 
-    /// The channels with these reactants.
-    pub(crate) fn find(&self, reactants: Reactants) -> &[Channel]
-        requires { length self.now.channels.items ≡ length self.now.reactants.keys }
-        ensures { result.now ≡ found_in self.now reactants }
+    /// The channels with this second species.
+    #[inline]
+    fn find(&self, second: Option<SpeciesId>) -> &[Channel]
+        requires { IsRow self.now }
+        ensures { result.now ≡ found_in_row self.now second }
     {
-        match self.reactants.get_index_of(&reactants) {
-            Some(k) => self.channels[k].as_slice(),
-            None => &[],
+        match second {
+            None => self.alone.as_slice(),
+            Some(second) => match self.seconds.binary_search(&second.0) {
+                Ok(k) => self.pairs[k].as_slice(),
+                Err(_) => &[],
+            },
         }
     }
 
-    /// Puts a channel behind those with the same reactants.
-    fn add(&mut self, alloc: Global, reactants: Reactants, channel: Channel) -> Result<(), NoMemory>
-        requires { length self.old.channels.items ≡ length self.old.reactants.keys }
-        ensures paired { OnOk result (length self.new.channels.items ≡ length self.new.reactants.keys) }
-        ensures added { OnOk result ((r : Reactants) → found_in self.new r ≡ (if same r reactants then found_in self.old r ++ channel ∷ [] else found_in self.old r)) }
+    /// Puts a channel behind those with the same second species.
+    fn add(
+        &mut self,
+        alloc: Global,
+        second: Option<SpeciesId>,
+        channel: Channel,
+    ) -> Result<(), NoMemory>
+        requires { IsRow self.old }
+        ensures row { OnOk result (IsRow self.new) }
+        ensures added { OnOk result ((s : Option SpeciesId) → found_in_row self.new s ≡ (if same_species s second then found_in_row self.old s ++ channel ∷ [] else found_in_row self.old s)) }
     {
-        match self.reactants.get_index_of(&reactants) {
-            Some(k) => {
-                let list = &mut self.channels[k];
+        match second {
+            None => match self.alone.push(channel) {
+                Ok(()) => Ok(()),
+                Err(_) => Err(NoMemory),
+            },
+            Some(second) => self.add_pair(alloc, second.0, channel),
+        }
+    }
+
+    fn add_pair(&mut self, alloc: Global, second: u16, channel: Channel) -> Result<(), NoMemory>
+        requires { IsRow self.old }
+        ensures row { OnOk result (IsRow self.new) }
+        ensures added { OnOk result ((s : Option SpeciesId) → found_in_row self.new s ≡ (if same_species s (Some (record { 0 = second })) then found_in_row self.old s ++ channel ∷ [] else found_in_row self.old s)) }
+    {
+        match self.seconds.binary_search(&second) {
+            Ok(k) => {
+                let list = &mut self.pairs[k];
                 match list.push(channel) {
                     Ok(()) => Ok(()),
                     Err(_) => Err(NoMemory),
                 }
             }
-            None => self.add_new(alloc, reactants, channel),
+            Err(k) => self.add_first(alloc, k, second, channel),
         }
     }
 
-    /// Puts the first channel with these reactants.
-    fn add_new(
+    /// Puts the first channel with this second species, whose place among the others is `k`.
+    fn add_first(
         &mut self,
         alloc: Global,
-        reactants: Reactants,
+        k: usize,
+        second: u16,
         channel: Channel,
     ) -> Result<(), NoMemory>
-        requires paired { length self.old.channels.items ≡ length self.old.reactants.keys }
-        requires new { list_any (is_equal reactants) self.old.reactants.keys ≡ false }
-        ensures paired { OnOk result (length self.new.channels.items ≡ length self.new.reactants.keys) }
-        ensures added { OnOk result ((r : Reactants) → found_in self.new r ≡ (if same r reactants then found_in self.old r ++ channel ∷ [] else found_in self.old r)) }
+        requires row { IsRow self.old }
+        requires place { IsPlaceFor self.old.seconds.items k second }
+        ensures row { OnOk result (IsRow self.new) }
+        ensures added { OnOk result ((s : Option SpeciesId) → found_in_row self.new s ≡ (if same_species s (Some (record { 0 = second })) then found_in_row self.old s ++ channel ∷ [] else found_in_row self.old s)) }
     {
         let mut list = Vec::new(alloc);
         let Ok(()) = list.push(channel) else {
             return Err(NoMemory);
         };
-        let Ok(()) = self.channels.push(list) else {
+        let Ok(()) = self.pairs.insert(k, list) else {
             return Err(NoMemory);
         };
-        match self.reactants.insert(reactants) {
-            Ok(_) => Ok(()),
+        match self.seconds.insert(k, second) {
+            Ok(()) => Ok(()),
             Err(_) => Err(NoMemory),
         }
+    }
+}
+
+/// The channels of each reactants, in the order in which they were added.
+#[derive(Drop)]
+pub(crate) struct Index {
+    // by the number of the first species
+    rows: Vec<Row>,
+}
+
+impl Index {
+    ghost use Rattle.plan.specs.Index.{found_in, same, channel_at, AreRows};
+    ghost use Rattle.plan.specs.declared.index.Reactants.{Reactants};
+    ghost use Rattle.std.specs.Prelude.{◌≡◌, ◌++◌, ◌∷◌, [], ◌+◌, ◌<◌, ◌&&◌, nat_lt, OnOk, Some, length, if◌then◌else◌};
+
+    pub(crate) fn new(alloc: Global) -> Index
+        ensures rows { AreRows result }
+        ensures none { (r : Reactants) → found_in result r ≡ [] }
+    {
+        Index {
+            rows: Vec::new(alloc),
+        }
+    }
+
+    /// The channels with these reactants.
+    #[inline]
+    pub(crate) fn find(&self, reactants: Reactants) -> &[Channel]
+        requires { AreRows self.now }
+        ensures { result.now ≡ found_in self.now reactants }
+    {
+        match self.rows.get(usize::from(reactants.first.0)) {
+            Some(row) => row.find(reactants.second),
+            None => &[],
+        }
+    }
+
+    /// Makes rows up to that of a species.
+    fn grow(&mut self, alloc: Global, first: SpeciesId) -> Result<(), NoMemory>
+        requires { AreRows self.old }
+        ensures rows { OnOk result (AreRows self.new) }
+        ensures long { OnOk result (first.0 < length self.new.rows.items) }
+        ensures found { OnOk result ((r : Reactants) → found_in self.new r ≡ found_in self.old r) }
+    {
+        while self.rows.len() <= usize::from(first.0) {
+            let Ok(()) = self.rows.push(Row::new(alloc)) else {
+                return Err(NoMemory);
+            };
+        }
+        Ok(())
+    }
+
+    /// Puts a channel behind those with the same reactants.
+    fn add(&mut self, alloc: Global, reactants: Reactants, channel: Channel) -> Result<(), NoMemory>
+        requires { AreRows self.old }
+        ensures rows { OnOk result (AreRows self.new) }
+        ensures added { OnOk result ((r : Reactants) → found_in self.new r ≡ (if same r reactants then found_in self.old r ++ channel ∷ [] else found_in self.old r)) }
+    {
+        match self.grow(alloc, reactants.first) {
+            Ok(()) => {}
+            Err(NoMemory) => return Err(NoMemory),
+        }
+        let row = &mut self.rows[usize::from(reactants.first.0)];
+        row.add(alloc, reactants.second, channel)
     }
 
     /// Puts the channels of a rule last, whose way 0 has this number.
@@ -104,9 +193,9 @@ impl Index {
         number: u16,
         rule: Rule,
     ) -> Result<(), NoMemory>
-        requires paired { length self.old.channels.items ≡ length self.old.reactants.keys }
+        requires rows { AreRows self.old }
         requires number { number < 8191 }
-        ensures paired { OnOk result (length self.new.channels.items ≡ length self.new.reactants.keys) }
+        ensures rows { OnOk result (AreRows self.new) }
         ensures added { OnOk result ((r : Reactants) → found_in self.new r ≡ (found_in self.old r ++ channel_at r number 0 (Some rule)) ++ channel_at r (number + 1) 1 (Some rule)) }
     {
         match rule {
@@ -155,8 +244,8 @@ impl Index {
         reactants: Reactants,
         channel: Channel,
     ) -> Result<(), NoMemory>
-        requires { length self.old.channels.items ≡ length self.old.reactants.keys }
-        ensures paired { OnOk result (length self.new.channels.items ≡ length self.new.reactants.keys) }
+        requires { AreRows self.old }
+        ensures rows { OnOk result (AreRows self.new) }
         ensures added { OnOk result ((r : Reactants) → found_in self.new r ≡ (if nat_lt 0 channel.rate.p && same r reactants then found_in self.old r ++ channel ∷ [] else found_in self.old r)) }
     {
         if channel.rate.p == 0 {

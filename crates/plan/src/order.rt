@@ -5,6 +5,7 @@ ghost use Rattle.surf_kinds.specs.Keys.{is_before as before_test, earlier as ear
 
 use surf_kinds::Event;
 
+#[inline]
 fn is_before(e: Event, f: Event) -> bool
     ensures { result ≡ before_test e f }
 {
@@ -12,6 +13,7 @@ fn is_before(e: Event, f: Event) -> bool
 }
 
 /// The event of the lesser key; of equal keys, the first event.
+#[inline]
 pub(crate) fn earlier(a: Option<Event>, b: Option<Event>) -> Option<Event>
     ensures { result ≡ earlier_of a b }
 {

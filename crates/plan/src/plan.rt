@@ -2,10 +2,10 @@
 
 ghost use Rattle.std.specs.Prelude.{◌≡◌, ◌+◌, ◌*◌, ◌/◌, ◌^◌, ◌<◌, ◌≤◌, length, All, IfOk, IfSome, Some, None};
 ghost use Rattle.plan.specs.Index.{reactants_at, IsChannel, earliest_after, armed_by};
-ghost use Rattle.plan.specs.Next.{next_at};
+ghost use Rattle.plan.specs.Next.{latest, next_at, occurrence};
 ghost use Rattle.plan.specs.Open.{IsOpen};
 ghost use Rattle.plan.specs.Held.{IsIndexed};
-ghost use Rattle.plan.specs.Products.{products_of};
+ghost use Rattle.plan.specs.Products.{fits_place, products_of};
 
 use crate::index::{Channel, Index, Reactants};
 use crate::order::earlier;
@@ -75,51 +75,69 @@ impl Plan {
     ///
     /// A channel's wait begins at the greatest last of the sites, and its draw is that of the place, the sum of the
     /// versions of its sites, and the channel. The cost goes with the channels that stand there.
+    #[inline]
     pub fn next_of(&self, place: Place, a: SiteState, b: Option<SiteState>) -> Option<Event>
         requires first { IsOpen a }
         requires second { IfSome b IsOpen }
         ensures { result ≡ next_at self.now.seed self.now.rules place.0 a b }
     {
         let channels = self.index.find(reactants_of(a, b));
-        self.earliest(channels, place, a, b)
+        if channels.is_empty() {
+            return None;
+        }
+        let (occurrence, from) = beginning_of(a, b);
+        self.earliest(channels, place, occurrence, from)
     }
 
-    /// The earliest event of these channels.
+    /// The earliest event of these channels of a place, at its occurrence, whose waits begin at a tick.
+    // Most places have no channel, and are passed without a call of this.
+    #[inline(never)]
     fn earliest(
         &self,
         channels: &[Channel],
         place: Place,
-        a: SiteState,
-        b: Option<SiteState>,
+        occurrence: u64,
+        from: u64,
     ) -> Option<Event>
         requires channels { All IsChannel channels.now }
-        requires first { IsOpen a }
-        requires second { IfSome b IsOpen }
-        ensures { result ≡ earliest_after self.now.seed place.0 a b None channels.now }
+        requires occurrence { occurrence < 2 ^ 54 }
+        requires from { from ≤ 10 ^ 15 }
+        ensures { result ≡ earliest_after self.now.seed place.0 occurrence from None channels.now }
     {
         let mut best = None;
         for channel in channels {
-            best = earlier(best, Some(self.armed(*channel, place, a, b)));
+            best = earlier(best, Some(self.armed(*channel, place, occurrence, from)));
         }
         best
     }
 
     /// The event of a channel.
-    fn armed(&self, channel: Channel, place: Place, a: SiteState, b: Option<SiteState>) -> Event
+    #[inline]
+    fn armed(&self, channel: Channel, place: Place, occurrence: u64, from: u64) -> Event
         requires channel { IsChannel channel }
-        requires first { IsOpen a }
-        requires second { IfSome b IsOpen }
-        ensures { result ≡ armed_by self.now.seed place.0 a b channel }
+        requires occurrence { occurrence < 2 ^ 54 }
+        requires from { from ≤ 10 ^ 15 }
+        ensures { result ≡ armed_by self.now.seed place.0 occurrence from channel }
     {
-        let (occurrence, last) = match b {
-            None => (a.version, a.last),
-            Some(b) => (a.version + b.version, a.last.max(b.last)),
-        };
         let draw = self.drawer.draw(place, occurrence, channel.number);
         Event {
-            time: last + wait(channel.rate, draw).unwrap(),
+            time: from + wait(channel.rate, draw).unwrap(),
             place,
             channel: channel.number,
+        }
+    }
+
+    /// Whether the number is a place of the lattice, and the channel one of a rule with that place's number of sites.
+    pub fn fits(&self, place: Place, channel: u16) -> bool
+        ensures { result ≡ fits_place self.now.lattice self.now.rules place.0 channel }
+    {
+        let Some(sites) = self.lattice.sites_of(place) else {
+            return false;
+        };
+        match self.rules.get(usize::from(channel / 2)) {
+            None => false,
+            Some(Rule::One { .. }) => sites.second.is_none(),
+            Some(Rule::Two { .. }) => sites.second.is_some(),
         }
     }
 
@@ -148,6 +166,7 @@ impl Plan {
 }
 
 /// What stands at the sites of a place.
+#[inline]
 fn reactants_of(a: SiteState, b: Option<SiteState>) -> Reactants
     ensures { result ≡ reactants_at a b }
 {
@@ -157,6 +176,22 @@ fn reactants_of(a: SiteState, b: Option<SiteState>) -> Reactants
             Some(b) => Some(b.species),
             None => None,
         },
+    }
+}
+
+/// The occurrence of a place whose sites have these states, and the tick at which its waits begin.
+#[inline]
+fn beginning_of(a: SiteState, b: Option<SiteState>) -> (u64, u64)
+    requires first { IsOpen a }
+    requires second { IfSome b IsOpen }
+    ensures occurrence { result.0 ≡ occurrence a b }
+    ensures from { result.1 ≡ latest a b }
+    ensures few { result.0 < 2 ^ 54 }
+    ensures early { result.1 ≤ 10 ^ 15 }
+{
+    match b {
+        None => (a.version, a.last),
+        Some(b) => (a.version + b.version, a.last.max(b.last)),
     }
 }
 

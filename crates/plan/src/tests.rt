@@ -56,5 +56,8 @@ fn a_pair_is_offered_in_its_way(rt: HostRuntime) -> Result<(), Fail> {
     assert_eq!(rt; plan.next_of(Place(0), a, None), None);
     assert_eq!(rt; plan.products(1), (C, Some(A)));
     assert_eq!(rt; plan.lattice().cols(), 3);
+    assert!(rt; plan.fits(Place(1), 1));
+    assert!(rt; !plan.fits(Place(0), 0));
+    assert!(rt; !plan.fits(Place(1), 2));
     Ok(())
 }

@@ -1,16 +1,16 @@
-use Rattle.std.proofs.Common.{◌≡◌, ◌-◌, ◌<◌, ◌≤◌, length}
-use Rattle.event_queue.specs.Heap.{AreInverse, IsHeapBut, IsBelowParent, kept_entries}
+use Rattle.std.proofs.Common.{◌≡◌, ◌-◌, ◌<◌, length}
+use Rattle.event_queue.specs.Heap.{AreInverse, IsBelowParent, IsHeapBut, filled, kept_with, told}
 use Rattle.event_queue.proofs.heap.sink.Given as goal
 
 abbrev pub invariant-loop-at : goal.invariant-loop-at
 invariant-loop-at l = record {
-  inverse : AreInverse l.heap l.positions;
-  long : l.len ≤ length l.heap;
-  within : l.at < l.len;
-  heap : IsHeapBut l.heap l.len l.at;
-  above : IsBelowParent l.heap l.at;
-  kept : kept_entries l.heap l.len l.positions ≡ kept_entries l.initial.heap l.len l.initial.positions;
+  long : length l.heap ≡ length l.initial.heap;
+  within : l.at < length l.initial.heap;
+  inverse : AreInverse (filled l.heap l.at l.entry) (told l.positions l.at l.entry);
+  heap : IsHeapBut (filled l.heap l.at l.entry) (length l.initial.heap) l.at;
+  below : IsBelowParent (filled l.heap l.at l.entry) l.at;
+  kept : kept_with l.heap l.positions l.at l.entry ≡ kept_with l.initial.heap l.initial.positions l.from l.entry;
 }
 
 abbrev pub decreases-loop-at : goal.decreases-loop-at
-decreases-loop-at l = l.len - l.at
+decreases-loop-at l = length l.initial.heap - l.at

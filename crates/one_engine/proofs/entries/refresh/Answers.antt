@@ -8,12 +8,6 @@ use Rattle.one_engine.specs.Running.{IsRight}
 use Rattle.one_engine.proofs.Sets.{right_here}
 use Rattle.one_engine.proofs.entries.refresh.Goals as goal
 
-pub refresh_place-requires-clause-place : goal.refresh_place-requires-clause-place
-refresh_place-requires-clause-place c =
-    let l = c.args.plan.now.lattice in
-    let is : sites_of l c.args.place.0 ≡ Some c.in-Some.sites = ap (λ (s : Shape). sites_of s c.args.place.0) (sym c.lattice.ensures) ∙ sym c.in-Some.ensures in
-    place_below l c.args.place.0 c.in-Some.sites is
-
 pub refresh_around-requires-clause-site : goal.refresh_around-requires-clause-site
 refresh_around-requires-clause-site c =
     let l = c.args.plan.now.lattice in

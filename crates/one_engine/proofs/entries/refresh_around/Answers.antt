@@ -1,10 +1,10 @@
 use Rattle.std.proofs.Common.{arith, take}
-use Rattle.one_engine.proofs.Sets.{listed_below, set_more, set_all}
+use Rattle.one_engine.proofs.Sets.{listed_has, set_more, set_all}
 use Rattle.one_engine.proofs.entries.refresh_around.Goals as goal
 
 pub refresh_unless-requires-clause-place : goal.refresh_unless-requires-clause-place
 refresh_unless-requires-clause-place c =
-    listed_below c.args.plan.now.lattice c.args.site.0 (take c.from.result c.places_of-around.result.list) c.loop-place.place-index c.loop-place.invariant.places c.loop-place-test.true
+    listed_has c.args.plan.now.lattice c.args.site.0 (take c.from.result c.places_of-around.result.list) c.loop-place.place-index c.loop-place.invariant.places c.loop-place-test.true
 
 pub loop-place-preserved : goal.loop-place-preserved
 loop-place-preserved c =

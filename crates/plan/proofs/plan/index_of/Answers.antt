@@ -6,7 +6,7 @@ use Rattle.plan.proofs.plan.index_of.Goals as goal
 
 pub loop-i-preserved : goal.loop-i-preserved
 loop-i-preserved c = (
-  c.in-Ok.ensures.paired,
+  c.in-Ok.ensures.rows,
   λ r.
       let i = c.loop-i.i in
       let rules = c.args.rules.now in
