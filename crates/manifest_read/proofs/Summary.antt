@@ -1,258 +1,174 @@
--- What is kept after some lines, as the definitions say it, and what the next line makes of it.
-use Rattle.std.proofs.Common.{◌≡◌, ℕ, suc, ◌+◌, ◌*◌, ◌≤◌, Bool, true, false, cond, not, ◌&&◌, ◌==◌, List, [], ◌∷◌, ◌++◌, length, map, fold, None, Result, Ok, Err, refl, sym, ap, ◌∙◌, arith}
-use Rattle.std.specs.Prelude.{nat_lt, nat_le}
-use Rattle.std.specs.List.{list_all, flat_map, cons_option}
+-- What the lines tell, as one more line comes.
+use Rattle.std.proofs.Common.{◌≡◌, ℕ, suc, ◌+◌, Bool, true, false, cond, ◌||◌, ◌==◌, List, [], ◌∷◌, ◌++◌, length, fold, Option, Some, None, Result, Ok, Err, refl, sym, ap, ◌∙◌, arith}
+use Rattle.std.specs.List.{cons_option, filter_map, flat_map}
+use Rattle.std.specs.Option.{option_map}
 use Rattle.std.proofs.lemmas.Bool.Decides.{nat_tests}
-use Rattle.std.proofs.lemmas.List.{append-nil, length-append, length-map, map_push, map-append}
-use Rattle.std.proofs.lemmas.List.Folds.{list_all-append}
+use Rattle.std.proofs.lemmas.List.{append-nil, length-append}
 use Rattle.std.proofs.lemmas.List.Elements.{filter_map-append}
+use Rattle.std.proofs.lemmas.List.Sums.{fold-append}
 use Rattle.std.proofs.lemmas.Grind.{flat_map-append}
-use Rattle.surf_kinds.specs.declared.rule.Rule.{Rule}
-use Rattle.surf_kinds.specs.declared.site.SpeciesId.{SpeciesId}
-use Rattle.lattice.specs.Shape.{Shape}
-use Rattle.lattice.specs.declared.grid.Kind.TheVariants.{Square}
-use Rattle.species.specs.Names.{with_name, place_of}
-use Rattle.manifest_read.specs.declared.fault.ManifestFault.{ManifestFault}
-use Rattle.manifest_read.specs.declared.manifest.Manifest.{Manifest}
-use Rattle.manifest_read.specs.Sorts.{SaidRule, LineSort, is_name}
-use Rattle.manifest_read.specs.Stages.{Stage}
-use Rattle.manifest_read.specs.Manifest.{Line, stage_of, sorts_of, seed_in, units_in, rule_in, row_in, first_or, names_said, numbered, width_of, not_built}
-use Rattle.manifest_read.specs.Steps.{Kept, names_fit, cells, onward, refused, rule, with_rule, row, end_row, with_row}
-use Rattle.manifest_read.proofs.Cells.{places-fold}
-use Rattle.manifest_read.proofs.Moves.{seeds_in, all_units_in, rules_in, rows_in}
-use Rattle.manifest_read.proofs.Numbers.{species_in, species-rules, species-sites, species-row, species-rule, rules-fold, names_fit-is, with_cells, cells-is}
+use Rattle.surf_text.specs.Cuts.{words_of}
+use Rattle.species.specs.Names.{with_name}
+use Rattle.manifest_read.specs.declared.section.Section.{Section}
+use Rattle.manifest_read.specs.declared.section.Section.TheVariants.{Rules, Surface, Colours}
+use Rattle.manifest_read.specs.declared.section.Opened.{Opened}
+use Rattle.manifest_read.specs.declared.text.Setting.{Setting}
+use Rattle.manifest_read.specs.declared.fault.ManifestKind.{ManifestKind}
+use Rattle.manifest_read.specs.Rules.{SaidRule, rule_of}
+use Rattle.manifest_read.specs.Sorts.{LineSort, Starts, Ends, Unknown, Plain, sort_of}
+use Rattle.manifest_read.specs.Manifest.{Line, open_of, open_after, was_started, starts, same_section, Entry, SettingEntry, RuleEntry, RowEntry, ColourEntry, NoEntry, entry_of, entry_in, entry_at, entries_of, setting_in, rule_in, row_in, colour_in, names_in, names_of_said, ok, first_seen, width_of, Told, told_by, told}
+use Rattle.manifest_read.specs.Steps.{with_rule, with_row, with_entry, with_start, told_after}
 
--- the sites of rows
-abbrev pub sites_in : List (List (List ℕ)) → List (List ℕ)
-sites_in rows = flat_map (λ row. row) rows
+-- Sections
 
--- what is kept, by what was said
-abbrev pub sum : ℕ → Stage → List ℕ → List ℕ → List SaidRule → List (List (List ℕ)) → Kept
-sum n s seeds units rules rows = record {
-  lines = n;
-  stage = s;
-  content = record {
-    seed = first_or 0 seeds;
-    until = 1000000 * first_or 100 units;
-    lattice = record { kind = Square; rows = length rows; cols = width_of rows; wrap = false };
-    others = [];
-    names = species_in rules (sites_in rows);
-    rules = map (numbered (species_in rules (sites_in rows))) rules;
-    cells = map (place_of (species_in rules (sites_in rows))) (sites_in rows);
-    colours = None;
-  };
-}
+same-itself : (s : Section) → same_section s s ≡ true
+same-itself Rules = refl
+same-itself Surface = refl
+same-itself Colours = refl
 
-abbrev pub within : List SaidRule → List (List (List ℕ)) → Bool
-within rules rows =
-    list_all (λ row. length row == width_of rows) rows
-    && (nat_le (length (sites_in rows)) 1048576
-    && (nat_le (length rules) 4096
-    && nat_le (length (species_in rules (sites_in rows))) 4096))
+abbrev OpenIsStarted : Option Opened → List Line → Type 0
+OpenIsStarted None lines = Unit {0}
+OpenIsStarted (Some o) lines = was_started o.section lines ≡ true
 
--- what is kept after lines of these sorts
-abbrev pub sum_of : ℕ → Stage → List LineSort → Kept
-sum_of n s sorts = sum n s (seeds_in sorts) (all_units_in sorts) (rules_in sorts) (rows_in sorts)
+kept_open : (o : Option Opened) (sort : LineSort) (lines : List Line) → ((s : Section) → starts s sort ≡ false) → OpenIsStarted o lines → (line : Line) → sort_of line ≡ sort → OpenIsStarted o (line ∷ lines)
+kept_open None sort lines no_start h line e = tt
+kept_open (Some o) sort lines no_start h line e = ap (λ x. starts o.section x || was_started o.section lines) e ∙ ap (λ b. b || was_started o.section lines) (no_start o.section) ∙ h
 
-abbrev pub is_within_sorts : List LineSort → Bool
-is_within_sorts sorts = within (rules_in sorts) (rows_in sorts)
+opens : (sort : LineSort) (line : Line) (lines : List Line) → sort_of line ≡ sort → OpenIsStarted (open_of lines) lines → OpenIsStarted (open_after sort (length lines + 1) (open_of lines)) (line ∷ lines)
+opens (Starts s) line lines e h = ap (λ x. starts s x || was_started s lines) e ∙ ap (λ b. b || was_started s lines) (same-itself s)
+opens (Ends s) line lines e h = tt
+opens Unknown line lines e h = kept_open (open_of lines) Unknown lines (λ s. refl) h line e
+opens (Plain bare whole) line lines e h = kept_open (open_of lines) (Plain bare whole) lines (λ s. refl) h line e
 
-abbrev pub kept_of : List Line → Kept
-kept_of before = sum_of (length before) (stage_of before) (sorts_of before)
+-- the section that is open was started
+pub open-started : (lines : List Line) → OpenIsStarted (open_of lines) lines
+open-started [] = tt
+open-started (line ∷ lines) = opens (sort_of line) line lines refl (open-started lines)
 
-pub sum-same : (n m : ℕ) (s : Stage) (S S' U U' : List ℕ) (R R' : List SaidRule) (W W' : List (List (List ℕ)))
-    → n ≡ m → S ≡ S' → U ≡ U' → R ≡ R' → W ≡ W' → sum n s S U R W ≡ sum m s S' U' R' W'
-sum-same n m s S S' U U' R R' W W' a b c d e =
-    ap (λ x. sum x s S U R W) a ∙ ap (λ x. sum m s x U R W) b ∙ ap (λ x. sum m s S' x R W) c ∙ ap (λ x. sum m s S' U' x W) d ∙ ap (λ x. sum m s S' U' R' x) e
+-- Colours
 
--- with one more line, whose sort is x
-abbrev pub more : ℕ → Stage → List LineSort → LineSort → Kept
-more n s sorts x =
-    sum n s (seeds_in sorts ++ cons_option (seed_in x) []) (all_units_in sorts ++ cons_option (units_in x) []) (rules_in sorts ++ cons_option (rule_in x) []) (rows_in sorts ++ cons_option (row_in x) [])
+no_colour_said : (form : List ℕ → Entry) (text : List ℕ) → ((t : List ℕ) → colour_in (form t) ≡ None) → colour_in (entry_of form text) ≡ None
+no_colour_said form [] h = refl
+no_colour_said form (c ∷ cs) h = h (c ∷ cs)
 
-pub sum-more : (n : ℕ) (s : Stage) (sorts : List LineSort) (x : LineSort) → sum_of n s (sorts ++ x ∷ []) ≡ more n s sorts x
-sum-more n s sorts x =
-    sum-same n n s _ _ _ _ _ _ _ _ refl (filter_map-append seed_in sorts (x ∷ [])) (filter_map-append units_in sorts (x ∷ [])) (filter_map-append rule_in sorts (x ∷ [])) (filter_map-append row_in sorts (x ∷ []))
+-- lines on colours stand in the colour section alone
+no_colour_in : (s : Section) (bare whole : List ℕ) → (same_section s Colours ≡ true → ⊥) → colour_in (entry_in s bare whole) ≡ None
+no_colour_in Rules bare whole h = no_colour_said RuleEntry bare (λ t. refl)
+no_colour_in Surface bare whole h = no_colour_said (λ text. RowEntry (words_of text)) bare (λ t. refl)
+no_colour_in Colours bare whole h = absurd (h refl)
 
-pub within-more : (sorts : List LineSort) (x : LineSort)
-    → is_within_sorts (sorts ++ x ∷ []) ≡ within (rules_in sorts ++ cons_option (rule_in x) []) (rows_in sorts ++ cons_option (row_in x) [])
-within-more sorts x =
-    ap (λ r. within r (rows_in (sorts ++ x ∷ []))) (filter_map-append rule_in sorts (x ∷ [])) ∙ ap (λ w. within (rules_in sorts ++ cons_option (rule_in x) []) w) (filter_map-append row_in sorts (x ∷ []))
+not_colours : (s : Section) (lines : List Line) → was_started s lines ≡ true → was_started Colours lines ≡ false → same_section s Colours ≡ true → ⊥
+not_colours Rules lines h g e = cc
+not_colours Surface lines h g e = cc
+not_colours Colours lines h g e = cc
 
--- the parts of a count within its limits
-pub both : (a b : Bool) → (a && b) ≡ true → (a ≡ true) × (b ≡ true)
-both true b h = (refl, h)
-both false b h = absurd cc
+no_colour_at : (was : Option Opened) (sort : LineSort) (lines : List Line) → OpenIsStarted was lines → was_started Colours lines ≡ false → colour_in (entry_at was sort) ≡ None
+no_colour_at None (Plain bare whole) lines h g = no_colour_said SettingEntry bare (λ t. refl)
+no_colour_at (Some o) (Plain bare whole) lines h g = no_colour_in o.section bare whole (not_colours o.section lines h g)
+no_colour_at was (Starts s) lines h g = refl
+no_colour_at was (Ends s) lines h g = refl
+no_colour_at was Unknown lines h g = refl
 
-pub record Limits (rules : List SaidRule) (rows : List (List (List ℕ))) : Type 0 where
-  pub same : list_all (λ row. length row == width_of rows) rows ≡ true
-  pub sites : length (sites_in rows) ≤ 1048576
-  pub rule_count : length rules ≤ 4096
-  pub names : length (species_in rules (sites_in rows)) ≤ 4096
+neither : (a b : Bool) → (a || b) ≡ false → b ≡ false
+neither true b h = absurd cc
+neither false b h = h
 
-below : (n m : ℕ) → nat_le n m ≡ true → n ≤ m
-below n m h = grind (arith, nat_tests)
+no-colours : (lines : List Line) → was_started Colours lines ≡ false → filter_map colour_in (entries_of lines) ≡ []
+no-colours [] h = refl
+no-colours (line ∷ before) h =
+    let g : was_started Colours before ≡ false = neither (starts Colours (sort_of line)) (was_started Colours before) h in
+    filter_map-append colour_in (entries_of before) (entry_at (open_of before) (sort_of line) ∷ [])
+    ∙ ap (λ l. l ++ cons_option (colour_in (entry_at (open_of before) (sort_of line))) []) (no-colours before g)
+    ∙ ap (λ o. cons_option o []) (no_colour_at (open_of before) (sort_of line) before (open-started before) g)
 
-pub limits : (rules : List SaidRule) (rows : List (List (List ℕ))) → within rules rows ≡ true → Limits rules rows
-limits rules rows h =
-    let p = both (list_all (λ row. length row == width_of rows) rows) _ h in
-    let q = both (nat_le (length (sites_in rows)) 1048576) _ p.1 in
-    let r = both (nat_le (length rules) 4096) _ q.1 in
-    record { same = p.0; sites = below _ _ q.0; rule_count = below _ _ r.0; names = below _ _ r.1 }
+-- What is told, by its parts
 
--- A rule
+abbrev parts : List Setting → List SaidRule → List (List (List ℕ)) → List (List ℕ) → Option (List (List ℕ)) → Told
+parts S R W N C = record { settings = S; rules = R; rows = length W; cols = width_of W; cells = flat_map (λ row. row) W; names = N; colours = C }
 
-rule_counts : (n : ℕ) → nat_lt n 4096 ≡ nat_le (n + 1) 4096
-rule_counts n = grind (arith, nat_tests)
+parts-same : (S S' : List Setting) (R R' : List SaidRule) (W W' : List (List (List ℕ))) (N N' : List (List ℕ)) (C C' : Option (List (List ℕ)))
+    → S ≡ S' → R ≡ R' → W ≡ W' → N ≡ N' → C ≡ C' → parts S R W N C ≡ parts S' R' W' N' C'
+parts-same S S' R R' W W' N N' C C' s r w n c =
+    ap (λ x. parts x R W N C) s ∙ ap (λ x. parts S' x W N C) r ∙ ap (λ x. parts S' R' x N C) w ∙ ap (λ x. parts S' R' W' x C) n ∙ ap (λ x. parts S' R' W' N' x) c
 
-rules_push : (R : List SaidRule) (r : SaidRule)
-    → map (numbered (species_in R [])) R ++ numbered (fold with_name (species_in R []) (names_said r)) r ∷ []
-    ≡ map (numbered (species_in (R ++ r ∷ []) [])) (R ++ r ∷ [])
-rules_push R r =
-    let e = species-rule R r in
-    ap (λ (l : List Rule). l ++ numbered (fold with_name (species_in R []) (names_said r)) r ∷ []) (sym (rules-fold (names_said r) (species_in R []) R (species-rules R [])))
-    ∙ sym (map_push (numbered (fold with_name (species_in R []) (names_said r))) R r)
-    ∙ ap (λ names. map (numbered names) (R ++ r ∷ [])) (sym e)
+abbrev colours_by : List (List ℕ) → Bool → Option (List (List ℕ))
+colours_by lines coloured = cond coloured (Some lines) None
 
-pub said_rule : (n : ℕ) (s : Stage) (S U : List ℕ) (R : List SaidRule) (r : SaidRule) → within R [] ≡ true
-    → rule (sum n s S U R []) r ≡ cond (within (R ++ r ∷ []) []) (Ok (sum n s S U (R ++ r ∷ []) [])) (Err (not_built n))
-said_rule n s S U R r h =
-    let m = limits R [] h in
-    let k : Kept = sum n s S U R [] in
-    let known = fold with_name (species_in R []) (names_said r) in
-    let count : nat_lt (length (map (numbered (species_in R [])) R)) 4096 ≡ nat_le (length (R ++ r ∷ [])) 4096
-    = ap (λ c. nat_lt c 4096) (length-map R (numbered (species_in R []))) ∙ rule_counts (length R) ∙ ap (λ c. nat_le c 4096) (sym (length-append R (r ∷ []))) in
-    let names : names_fit (names_said r) (species_in R []) ≡ nat_le (length (species_in (R ++ r ∷ []) [])) 4096
-    = names_fit-is (names_said r) (species_in R []) m.names ∙ ap (λ l. nat_le (length l) 4096) (sym (species-rule R r)) in
-    let made : with_rule k r known ≡ sum n s S U (R ++ r ∷ []) []
-    = ap (λ (l : List Rule). let c : Manifest = record k.content { names = known; rules = l } in let q : Kept = record k { content = c } in q) (rules_push R r)
-    ∙ ap (λ (l : List (List ℕ)). let c : Manifest = record k.content { names = l; rules = map (numbered (species_in (R ++ r ∷ []) [])) (R ++ r ∷ []) } in let q : Kept = record k { content = c } in q) (sym (species-rule R r)) in
-    ap (λ (b : Bool). cond (b && names_fit (names_said r) (species_in R [])) (Ok (with_rule k r known)) (refused k)) count
-    ∙ ap (λ (b : Bool). cond (nat_le (length (R ++ r ∷ [])) 4096 && b) (Ok (with_rule k r known)) (refused k)) names
-    ∙ ap (λ (q : Kept). let o : Result Kept ManifestFault = cond (nat_le (length (R ++ r ∷ [])) 4096 && nat_le (length (species_in (R ++ r ∷ []) [])) 4096) (Ok q) (refused k) in o) made
+-- with one more entry
+abbrev more : List Entry → Bool → Entry → Told
+more es coloured e =
+    parts (filter_map setting_in es ++ cons_option (setting_in e) []) (filter_map rule_in es ++ cons_option (rule_in e) []) (filter_map row_in es ++ cons_option (row_in e) [])
+    (fold with_name (first_seen (flat_map names_in es)) (names_in e)) (colours_by (filter_map colour_in es ++ cons_option (colour_in e) []) coloured)
 
--- A row
+told_by-more : (es : List Entry) (coloured : Bool) (e : Entry) → told_by (es ++ e ∷ []) coloured ≡ more es coloured e
+told_by-more es coloured e =
+    parts-same _ _ _ _ _ _ _ _ _ _ (filter_map-append setting_in es (e ∷ [])) (filter_map-append rule_in es (e ∷ [])) (filter_map-append row_in es (e ∷ []))
+    (ap first_seen (flat_map-append names_in es (e ∷ []) ∙ ap (λ l. flat_map names_in es ++ l) (append-nil (names_in e))) ∙ fold-append with_name [] (flat_map names_in es) (names_in e))
+    (ap (λ l. colours_by l coloured) (filter_map-append colour_in es (e ∷ [])))
 
-positive : (n : ℕ) → nat_lt 0 (suc n) ≡ true
-positive n = grind (arith, nat_tests)
+colours_same : (lines : List (List ℕ)) (coloured : Bool) → colours_by (lines ++ []) coloured ≡ colours_by lines coloured
+colours_same lines coloured = ap (λ l. colours_by l coloured) (append-nil lines)
 
-same_count : (n : ℕ) → (n == n) ≡ true
-same_count n = grind (arith, nat_tests)
+colours_more : (lines : List (List ℕ)) (text : List ℕ) (coloured : Bool) → colours_by (lines ++ text ∷ []) coloured ≡ option_map (λ l. l ++ text ∷ []) (colours_by lines coloured)
+colours_more lines text true = refl
+colours_more lines text false = refl
 
-equal : (n m : ℕ) → (n == m) ≡ true → n ≡ m
-equal n m h = grind (arith, nat_tests)
+-- rows
+abbrev rows_told : List Setting → List SaidRule → ℕ → ℕ → List (List ℕ) → List (List ℕ) → Option (List (List ℕ)) → Told
+rows_told S R rows cols cells N C = record { settings = S; rules = R; rows = rows; cols = cols; cells = cells; names = N; colours = C }
 
-and_true : (b : Bool) → (b && true) ≡ b
-and_true true = refl
-and_true false = refl
-
-not_twice : (b : Bool) → not (not b) ≡ b
-not_twice true = refl
-not_twice false = refl
-
--- the row is not as long as those before it
-abbrev is_ragged : List (List (List ℕ)) → List (List ℕ) → Bool
-is_ragged rows names = nat_lt 0 (length rows) && not (length names == width_of rows)
-
-ragged-is : (W : List (List (List ℕ))) (names : List (List ℕ)) → list_all (λ row. length row == width_of W) W ≡ true
-    → list_all (λ row. length row == width_of (W ++ names ∷ [])) (W ++ names ∷ []) ≡ not (is_ragged W names)
-ragged-is [] names h = ap (λ b. b && true) (same_count (length names))
-ragged-is (w ∷ ws) names h =
-    list_all-append (λ row. length row == length w) (w ∷ ws) (names ∷ [])
-    ∙ ap (λ b. b && (length names == length w && true)) h
-    ∙ and_true (length names == length w)
-    ∙ sym (ap (λ b. not (b && not (length names == length w))) (positive (length ws)) ∙ not_twice (length names == length w))
-
-cols-is : (W : List (List (List ℕ))) (names : List (List ℕ)) → is_ragged W names ≡ false → length names ≡ width_of (W ++ names ∷ [])
-cols-is [] names h = refl
-cols-is (w ∷ ws) names h = by (length names == length w) refl (sym (ap (λ b. b && not (length names == length w)) (positive (length ws))) ∙ h)
+width_more : (W : List (List (List ℕ))) (words : List (List ℕ)) → width_of (W ++ words ∷ []) ≡ cond (length W == 0) (length words) (width_of W)
+width_more [] words = refl
+width_more (w ∷ ws) words = sym (ap (λ b. cond b (length words) (length w)) (not_zero (length ws)))
   where
-    by : (b : Bool) → (length names == length w) ≡ b → (true && not b) ≡ false → length names ≡ length w
-    by true e g = equal (length names) (length w) e
-    by false e g = absurd cc
+    not_zero : (n : ℕ) → (suc n == 0) ≡ false
+    not_zero n = grind (arith, nat_tests)
 
-sites-push : (W : List (List (List ℕ))) (names : List (List ℕ)) → sites_in (W ++ names ∷ []) ≡ sites_in W ++ names
-sites-push W names = flat_map-append (λ row. row) W (names ∷ []) ∙ ap (λ l. sites_in W ++ l) (append-nil names)
+row_more : (S : List Setting) (R : List SaidRule) (W : List (List (List ℕ))) (N : List (List ℕ)) (C : Option (List (List ℕ))) (words : List (List ℕ))
+    → parts S R (W ++ words ∷ []) (fold with_name N words) C ≡ with_row words (parts S R W N C)
+row_more S R W N C words =
+    ap (λ x. rows_told S R x (width_of (W ++ words ∷ [])) (flat_map (λ row. row) (W ++ words ∷ [])) (fold with_name N words) C) (length-append W (words ∷ []))
+    ∙ ap (λ x. rows_told S R (length W + 1) x (flat_map (λ row. row) (W ++ words ∷ [])) (fold with_name N words) C) (width_more W words)
+    ∙ ap (λ x. rows_told S R (length W + 1) (cond (length W == 0) (length words) (width_of W)) x (fold with_name N words) C)
+    (flat_map-append (λ (row : List (List ℕ)). row) W (words ∷ []) ∙ ap (λ l. flat_map (λ row. row) W ++ l) (append-nil words))
 
-species-push : (R : List SaidRule) (W : List (List (List ℕ))) (names : List (List ℕ))
-    → species_in R (sites_in (W ++ names ∷ [])) ≡ fold with_name (species_in R (sites_in W)) names
-species-push R W names = ap (species_in R) (sites-push W names) ∙ species-row R (sites_in W) names
+rule_more : (S : List Setting) (R : List SaidRule) (W : List (List (List ℕ))) (N : List (List ℕ)) (C : Option (List (List ℕ))) (r : Result SaidRule ManifestKind)
+    → parts S (R ++ cons_option (ok r) []) W (fold with_name N (names_of_said (ok r))) C ≡ with_rule r (parts S R W N C)
+rule_more S R W N C (Ok r) = refl
+rule_more S R W N C (Err kind) = ap (λ x. parts S x W N C) (append-nil R)
 
-cells-push : (R : List SaidRule) (W : List (List (List ℕ))) (names : List (List ℕ))
-    → map (place_of (species_in R (sites_in W))) (sites_in W) ++ map (place_of (fold with_name (species_in R (sites_in W)) names)) names
-    ≡ map (place_of (species_in R (sites_in (W ++ names ∷ [])))) (sites_in (W ++ names ∷ []))
-cells-push R W names =
-    let known = fold with_name (species_in R (sites_in W)) names in
-    ap (λ (l : List SpeciesId). l ++ map (place_of known) names) (sym (places-fold names (species_in R (sites_in W)) (sites_in W) (species-sites R (sites_in W))))
-    ∙ sym (map-append (place_of known) (sites_in W) names)
-    ∙ ap (map (place_of known)) (sym (sites-push W names))
-    ∙ ap (λ l. map (place_of l) (sites_in (W ++ names ∷ []))) (sym (species-push R W names))
+entry_more : (es : List Entry) (coloured : Bool) (e : Entry) → more es coloured e ≡ with_entry e (told_by es coloured)
+entry_more es coloured (SettingEntry text) =
+    parts-same _ _ _ _ _ _ _ _ _ _ refl (append-nil (filter_map rule_in es)) (append-nil (filter_map row_in es)) refl (colours_same (filter_map colour_in es) coloured)
+entry_more es coloured (RuleEntry text) =
+    parts-same _ _ _ _ _ _ _ _ _ _ (append-nil (filter_map setting_in es)) refl (append-nil (filter_map row_in es)) refl (colours_same (filter_map colour_in es) coloured)
+    ∙ rule_more (filter_map setting_in es) (filter_map rule_in es) (filter_map row_in es) (first_seen (flat_map names_in es)) (colours_by (filter_map colour_in es) coloured) (rule_of text)
+entry_more es coloured (RowEntry words) =
+    parts-same _ _ _ _ _ _ _ _ _ _ (append-nil (filter_map setting_in es)) (append-nil (filter_map rule_in es)) refl refl (colours_same (filter_map colour_in es) coloured)
+    ∙ row_more (filter_map setting_in es) (filter_map rule_in es) (filter_map row_in es) (first_seen (flat_map names_in es)) (colours_by (filter_map colour_in es) coloured) words
+entry_more es coloured (ColourEntry text) =
+    parts-same _ _ _ _ _ _ _ _ _ _ (append-nil (filter_map setting_in es)) (append-nil (filter_map rule_in es)) (append-nil (filter_map row_in es)) refl (colours_more (filter_map colour_in es) text coloured)
+entry_more es coloured NoEntry =
+    parts-same _ _ _ _ _ _ _ _ _ _ (append-nil (filter_map setting_in es)) (append-nil (filter_map rule_in es)) (append-nil (filter_map row_in es)) refl (colours_same (filter_map colour_in es) coloured)
 
-rules-stay : (R : List SaidRule) (W : List (List (List ℕ))) (names : List (List ℕ))
-    → map (numbered (species_in R (sites_in W))) R ≡ map (numbered (species_in R (sites_in (W ++ names ∷ [])))) R
-rules-stay R W names =
-    sym (rules-fold names (species_in R (sites_in W)) R (species-rules R (sites_in W)))
-    ∙ ap (λ l. map (numbered l) R) (sym (species-push R W names))
+-- what one more entry tells
+pub told_by-entry : (es : List Entry) (coloured : Bool) (e : Entry) → told_by (es ++ e ∷ []) coloured ≡ with_entry e (told_by es coloured)
+told_by-entry es coloured e = told_by-more es coloured e ∙ entry_more es coloured e
 
--- what is kept, by its parts
-abbrev parts : ℕ → Stage → List ℕ → List ℕ → ℕ → ℕ → List (List ℕ) → List Rule → List SpeciesId → Kept
-parts n s S U rows cols names rules cells = record {
-  lines = n;
-  stage = s;
-  content = record {
-    seed = first_or 0 S;
-    until = 1000000 * first_or 100 U;
-    lattice = record { kind = Square; rows = rows; cols = cols; wrap = false };
-    others = [];
-    names = names;
-    rules = rules;
-    cells = cells;
-    colours = None;
-  };
-}
+-- where the colour section starts
+coloured_now : (before : List Line) (b : Bool) → was_started Colours before ≡ b
+    → told_by (entries_of before) true ≡ with_start Colours (told_by (entries_of before) b)
+coloured_now before true e = refl
+coloured_now before false e = ap (λ (l : List (List ℕ)). let t : Told = record (told_by (entries_of before) true) { colours = Some l } in t) (no-colours before e)
 
-parts-same : (n : ℕ) (s : Stage) (S U : List ℕ) (a a' b b' : ℕ) (c c' : List (List ℕ)) (d d' : List Rule) (e e' : List SpeciesId)
-    → a ≡ a' → b ≡ b' → c ≡ c' → d ≡ d' → e ≡ e' → parts n s S U a b c d e ≡ parts n s S U a' b' c' d' e'
-parts-same n s S U a a' b b' c c' d d' e e' p q r t u =
-    ap (λ x. parts n s S U x b c d e) p ∙ ap (λ x. parts n s S U a' x c d e) q ∙ ap (λ x. parts n s S U a' b' x d e) r
-    ∙ ap (λ x. parts n s S U a' b' c' x e) t ∙ ap (λ x. parts n s S U a' b' c' d' x) u
+by_sort : (before : List Line) (sort : LineSort) → told_by (entries_of before ++ entry_at (open_of before) sort ∷ []) (starts Colours sort || was_started Colours before) ≡ told_after (open_of before) sort (told before)
+by_sort before (Starts Rules) = told_by-entry (entries_of before) (was_started Colours before) NoEntry
+by_sort before (Starts Surface) = told_by-entry (entries_of before) (was_started Colours before) NoEntry
+by_sort before (Starts Colours) = told_by-entry (entries_of before) true NoEntry ∙ coloured_now before (was_started Colours before) refl
+by_sort before (Ends s) = told_by-entry (entries_of before) (was_started Colours before) NoEntry
+by_sort before Unknown = told_by-entry (entries_of before) (was_started Colours before) NoEntry
+by_sort before (Plain bare whole) = told_by-entry (entries_of before) (was_started Colours before) (entry_at (open_of before) (Plain bare whole))
 
-row_made : (n : ℕ) (s : Stage) (S U : List ℕ) (R : List SaidRule) (W : List (List (List ℕ))) (names : List (List ℕ)) → is_ragged W names ≡ false
-    → with_row (sum n s S U R W).content.lattice (length names) (with_cells (sum n s S U R W) names) ≡ sum n s S U R (W ++ names ∷ [])
-row_made n s S U R W names g =
-    parts-same n s S U _ _ _ _ _ _ _ _ _ _ (sym (length-append W (names ∷ []))) (cols-is W names g) (sym (species-push R W names)) (rules-stay R W names) (cells-push R W names)
-
-row_turn : (k after : Kept) (shape : Shape) (names : List (List ℕ)) (a c g : Bool) → (g ≡ false → with_row shape (length names) (with_cells k names) ≡ after)
-    → onward (cond (a && (true && c)) (Ok (with_cells k names)) (refused k)) (λ q. cond g (refused q) (Ok (with_row shape (length names) q)))
-    ≡ cond (not g && (a && (true && c))) (Ok after) (refused k)
-row_turn k after shape names false c true h = refl
-row_turn k after shape names false c false h = refl
-row_turn k after shape names true false true h = refl
-row_turn k after shape names true false false h = refl
-row_turn k after shape names true true true h = refl
-row_turn k after shape names true true false h = ap (λ (q : Kept). let r : Result Kept ManifestFault = Ok q in r) (h refl)
-
-at_most : (n m : ℕ) → n ≤ m → nat_le n m ≡ true
-at_most n m h = grind (arith, nat_tests)
-
-pub said_row : (n : ℕ) (s : Stage) (S U : List ℕ) (R : List SaidRule) (W : List (List (List ℕ))) (names : List (List ℕ)) → within R W ≡ true → list_all is_name names ≡ true
-    → row (sum n s S U R W) names ≡ cond (within R (W ++ names ∷ [])) (Ok (sum n s S U R (W ++ names ∷ []))) (Err (not_built n))
-said_row n s S U R W names h g =
-    let m = limits R W h in
-    let k : Kept = sum n s S U R W in
-    let after : Kept = sum n s S U R (W ++ names ∷ []) in
-    let sites : length k.content.cells ≡ length (sites_in W) = length-map (sites_in W) (place_of (species_in R (sites_in W))) in
-    let fits : length k.content.cells ≤ 1048576 = omega (arith, m.sites) in
-    let fitting : names_fit names k.content.names ≡ nat_le (length (species_in R (sites_in (W ++ names ∷ [])))) 4096
-    = names_fit-is names k.content.names m.names ∙ ap (λ l. nat_le (length l) 4096) (sym (species-push R W names)) in
-    let count : length k.content.cells + length names ≡ length (sites_in (W ++ names ∷ []))
-    = omega (arith, sites, ap length (sites-push W names), length-append (sites_in W) names) in
-    let rules : nat_le (length R) 4096 ≡ true = at_most (length R) 4096 m.rule_count in
-    ap (λ (r : Result Kept ManifestFault). onward r (end_row k.content.lattice (length names)))
-    (cells-is names k fits
-    ∙ ap (λ (i : ℕ). cond (nat_le i 1048576 && (list_all is_name names && names_fit names k.content.names)) (Ok (with_cells k names)) (refused k)) count
-    ∙ ap (λ (b : Bool). cond (nat_le (length (sites_in (W ++ names ∷ []))) 1048576 && (b && names_fit names k.content.names)) (Ok (with_cells k names)) (refused k)) g
-    ∙ ap (λ (b : Bool). cond (nat_le (length (sites_in (W ++ names ∷ []))) 1048576 && (true && b)) (Ok (with_cells k names)) (refused k)) fitting)
-    ∙ row_turn k after k.content.lattice names (nat_le (length (sites_in (W ++ names ∷ []))) 1048576) (nat_le (length (species_in R (sites_in (W ++ names ∷ [])))) 4096) (is_ragged W names) (row_made n s S U R W names)
-    ∙ ap (λ (b : Bool). let o : Result Kept ManifestFault = cond (b && (nat_le (length (sites_in (W ++ names ∷ []))) 1048576 && (true && nat_le (length (species_in R (sites_in (W ++ names ∷ [])))) 4096))) (Ok after) (refused k) in o) (sym (ragged-is W names m.same))
-    ∙ ap (λ (b : Bool). let o : Result Kept ManifestFault = cond (list_all (λ row. length row == width_of (W ++ names ∷ [])) (W ++ names ∷ []) && (nat_le (length (sites_in (W ++ names ∷ []))) 1048576 && (b && nat_le (length (species_in R (sites_in (W ++ names ∷ [])))) 4096))) (Ok after) (refused k) in o) (sym rules)
+-- what one more line tells
+pub told-more : (line : Line) (before : List Line) → told (line ∷ before) ≡ told_after (open_of before) (sort_of line) (told before)
+told-more line before = by_sort before (sort_of line)

@@ -1,6 +1,11 @@
+pub mod Names
+pub mod Rules
 pub mod Sorts
-pub mod Stages
+pub mod Settings
 pub mod Manifest
-pub mod Seen
-pub mod Steps
+pub mod Canon
 pub mod Sound
+pub mod Steps
+pub mod Spoken
+pub mod Seen
+pub mod Views

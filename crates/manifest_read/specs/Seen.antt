@@ -1,34 +1,64 @@
 -- What the reader's values say.
-use Rattle.std.specs.Prelude.{ℕ, Bool, List, Option, Some, None, ◌&&◌, if◌then◌else◌, codes}
-use Rattle.std.specs.Option.{option_map}
-use Rattle.std.specs.Str.{bytes_eq}
-use Rattle.manifest_read.specs.declared.sort.RuleText.{RuleText}
-use Rattle.manifest_read.specs.declared.sort.RuleText.TheVariants as texts
+use Rattle.std.specs.Prelude.{ℕ, List, [], ◌∷◌, Option, Some, None, Result, Ok, Err, if◌then◌else◌}
+use Rattle.std.specs.List.{list_all}
+use Rattle.std.specs.Borrow.{Bor}
+use Rattle.surf_kinds.specs.Rates.{Fraction}
+use Rattle.manifest_read.specs.declared.fault.ManifestKind.{ManifestKind}
+use Rattle.manifest_read.specs.declared.fault.ManifestKind.TheVariants.{BadArity}
+use Rattle.manifest_read.specs.declared.text.Setting.{Setting}
+use Rattle.manifest_read.specs.declared.rules.RuleText.{RuleText}
+use Rattle.manifest_read.specs.declared.rules.RuleText.TheVariants as rules
+use Rattle.manifest_read.specs.declared.rules.Side.{Side}
+use Rattle.manifest_read.specs.declared.rules.Side.TheVariants as sides
 use Rattle.manifest_read.specs.declared.sort.Sort.{Sort}
-use Rattle.manifest_read.specs.declared.sort.Sort.TheVariants as code
-use Rattle.manifest_read.specs.Sorts.{SaidRule, SaidOne, SaidTwo, LineSort, Seed, Duration, StartRules, RuleLine, EndRules, StartSurface, EndSurface, is_name, row_of, pieces_of, rate_of}
+use Rattle.manifest_read.specs.declared.sort.Sort.TheVariants as sorts
+use Rattle.manifest_read.specs.Names.{is_name}
+use Rattle.manifest_read.specs.Rules.{SaidRule, SaidOne, SaidTwo}
+use Rattle.manifest_read.specs.Sorts.{LineSort, Starts, Ends, Unknown, Plain}
+
+-- Rules
 
 abbrev pub said_by : RuleText → SaidRule
-said_by (texts.One rate a c) = SaidOne rate.value a.now c.now
-said_by (texts.Two rate a b c d) = SaidTwo rate.value a.now b.now c.now d.now
+said_by (rules.One rate a c) = SaidOne rate a.now c.now
+said_by (rules.Two rate a b c d) = SaidTwo rate a.now b.now c.now d.now
+
+abbrev pub said_of : Result RuleText ManifestKind → Result SaidRule ManifestKind
+said_of (Ok rule) = Ok (said_by rule)
+said_of (Err kind) = Err kind
+
+-- the pieces of a side, as many as a rule may have
+pub data SaidSide : Type 0 where
+  SideOne : (a : List ℕ) → SaidSide
+  SideTwo : (a b : List ℕ) → SaidSide
+  SideMany : SaidSide
+
+abbrev pub side_by : Side → SaidSide
+side_by (sides.One a) = SideOne a.now
+side_by (sides.Two a b) = SideTwo a.now b.now
+side_by sides.Many = SideMany
+
+abbrev pub counted : List (List ℕ) → SaidSide
+counted (a ∷ []) = SideOne a
+counted (a ∷ b ∷ []) = SideTwo a b
+counted pieces = SideMany
+
+abbrev pub sided : List (List ℕ) → Option SaidSide
+sided pieces = if list_all is_name pieces then Some (counted pieces) else None
+
+abbrev pub by_counts : Fraction → SaidSide → SaidSide → Result SaidRule ManifestKind
+by_counts rate (SideOne a) (SideOne c) = Ok (SaidOne rate a c)
+by_counts rate (SideTwo a b) (SideTwo c d) = Ok (SaidTwo rate a b c d)
+by_counts rate left right = Err BadArity
+
+-- Settings
+
+abbrev pub setting_by : Bor (List ℕ) × Bor (List ℕ) → Setting
+setting_by p = record { name = p.0.now; value = p.1.now }
+
+-- Lines
 
 abbrev pub seen : Sort → LineSort
-seen (code.Seed n) = Seed n
-seen (code.Duration whole) = Duration whole.value
-seen code.StartRules = StartRules
-seen (code.Rule rule) = RuleLine (said_by rule)
-seen code.EndRules = EndRules
-seen code.StartSurface = StartSurface
-seen code.EndSurface = EndSurface
-seen (code.Plain line) = row_of (pieces_of line.now)
-
--- two names with a plus between them
-abbrev pub pair_of : List ℕ → List ℕ → List ℕ → Option (List ℕ × List ℕ)
-pair_of first plus second = if bytes_eq plus (codes "+") && (is_name first && is_name second) then Some (first, second) else None
-
--- a rule of these pairs, if the arrow between them is one
-abbrev pub two_by : List ℕ → Option (List ℕ × List ℕ) → Bool → Option (List ℕ × List ℕ) → Option LineSort
-two_by rate None arrow right = None
-two_by rate (Some p) arrow None = None
-two_by rate (Some p) arrow (Some q) =
-    if arrow then option_map (λ n. RuleLine (SaidTwo n p.0 p.1 q.0 q.1)) (rate_of rate) else None
+seen (sorts.Starts section) = Starts section
+seen (sorts.Ends section) = Ends section
+seen sorts.Unknown = Unknown
+seen (sorts.Plain bare whole) = Plain bare.now whole.now

@@ -1,165 +1,115 @@
 -- What a reader keeps of the lines that it read, and what a line does to that.
-use Rattle.std.specs.Prelude.{◌≡◌, ℕ, ◌+◌, ◌*◌, ◌^◌, ◌≤◌, Bool, true, false, not, ◌&&◌, List, [], ◌∷◌, ◌++◌, fold, length, Option, Some, None, Result, Ok, Err, nat_lt, ◌==◌, if◌then◌else◌}
-use Rattle.species.specs.Names.{with_name, place_of, is_full}
-use Rattle.lattice.specs.declared.grid.Kind.TheVariants.{Square}
-use Rattle.lattice.specs.Shape.{Shape, IsSize}
+use Rattle.std.specs.Prelude.{ℕ, ◌+◌, Bool, false, ◌||◌, List, [], ◌∷◌, ◌++◌, fold, length, Option, Some, None, Result, Ok, Err, is_some, unwrap_or, ◌==◌, if◌then◌else◌}
+use Rattle.std.specs.List.{cons_option}
+use Rattle.std.specs.Option.{option_map}
+use Rattle.species.specs.Names.{with_name}
+use Rattle.manifest_read.specs.declared.section.Section.{Section}
+use Rattle.manifest_read.specs.declared.section.Section.TheVariants.{Rules, Surface, Colours}
+use Rattle.manifest_read.specs.declared.section.Opened.{Opened}
+use Rattle.manifest_read.specs.declared.fault.ManifestKind.{ManifestKind}
+use Rattle.manifest_read.specs.declared.text.Setting.{Setting}
+use Rattle.manifest_read.specs.declared.fault.ManifestKind.TheVariants.{UnknownSection}
 use Rattle.manifest_read.specs.declared.fault.ManifestFault.{ManifestFault}
-use Rattle.manifest_read.specs.declared.fault.ManifestError.{ManifestError}
-use Rattle.manifest_read.specs.declared.fault.ManifestError.TheVariants as errors
 use Rattle.manifest_read.specs.declared.manifest.Manifest.{Manifest}
-use Rattle.manifest_read.specs.declared.sort.Sort.{Sort}
-use Rattle.manifest_read.specs.declared.sort.Sort.TheVariants as code
-use Rattle.manifest_read.specs.declared.state.Stage.TheVariants as at
-use Rattle.manifest_read.specs.declared.state.Stage as codes
-use Rattle.manifest_read.specs.declared.state.State.{State}
-use Rattle.manifest_read.specs.Sorts.{SaidRule, LineSort, Seed, Duration, StartRules, RuleLine, EndRules, StartSurface, Row, EndSurface, Formless, is_name, pieces_of, sort_of}
-use Rattle.manifest_read.specs.Stages.{Stage, Start, AfterSeed, AfterDuration, InRules, AfterRules, InSurface, InRows, Ended, stage_after}
-use Rattle.manifest_read.specs.Manifest.{Line, not_built, is_ended, names_said, numbered}
-use Rattle.manifest_read.specs.Seen.{seen}
+use Rattle.manifest_read.specs.Rules.{SaidRule, names_of_rule, rule_of}
+use Rattle.manifest_read.specs.Settings.{setting_of}
+use Rattle.manifest_read.specs.Sorts.{LineSort, Starts, Ends, Unknown, Plain, sort_of}
+use Rattle.manifest_read.specs.Manifest.{Line, fault, open_after, starts, Entry, SettingEntry, RuleEntry, RowEntry, ColourEntry, NoEntry, entry_at, Told, unless, entry_fault, start_fault, close_fault, end_verdict_of, manifest_by}
 
--- the number of lines, where the next line stands, and the manifest as far as it was said
+-- the number of lines, the section that is open, whether the rules and the surface were there, and what the lines told
 pub record Kept : Type 0 where
   pub lines : ℕ
-  pub stage : Stage
-  pub content : Manifest
+  pub within : Option Opened
+  pub rules_seen : Bool
+  pub surface_seen : Bool
+  pub told : Told
 
 abbrev pub start : Kept
 start = record {
   lines = 0;
-  stage = Start;
-  content = record { seed = 0; until = 100000000; lattice = record { kind = Square; rows = 0; cols = 0; wrap = false }; others = []; names = []; rules = []; cells = []; colours = None };
+  within = None;
+  rules_seen = false;
+  surface_seen = false;
+  told = record { settings = []; rules = []; rows = 0; cols = 0; cells = []; names = []; colours = None };
 }
 
-abbrev pub refused : {A : Type 0} → Kept → Result A ManifestFault
-refused k = Err (not_built k.lines)
+-- the section was there
+abbrev pub was_seen : Kept → Section → Bool
+was_seen k Rules = k.rules_seen
+was_seen k Surface = k.surface_seen
+was_seen k Colours = is_some k.told.colours
 
-abbrev pub onward : {A B : Type 0} → Result A ManifestFault → (A → Result B ManifestFault) → Result B ManifestFault
-onward (Ok x) f = f x
-onward (Err e) f = Err e
+-- What an entry tells more
 
--- these names can be kept, one after the other
-abbrev pub names_fit : List (List ℕ) → List (List ℕ) → Bool
-names_fit [] known = true
-names_fit (name ∷ names) known = not (is_full known name) && names_fit names (with_name known name)
+abbrev pub with_setting : Option Setting → Told → Told
+with_setting s t = record t { settings = t.settings ++ cons_option s [] }
 
--- a rule
+abbrev pub with_rule : Result SaidRule ManifestKind → Told → Told
+with_rule (Ok r) t = record t { rules = t.rules ++ r ∷ []; names = fold with_name t.names (names_of_rule r) }
+with_rule (Err kind) t = t
 
-abbrev pub with_rule : Kept → SaidRule → List (List ℕ) → Kept
-with_rule k r names = record k { content = record k.content { names = names; rules = k.content.rules ++ numbered names r ∷ [] } }
+-- the first row tells how many names a row has
+abbrev pub with_row : List (List ℕ) → Told → Told
+with_row words t = record t {
+  rows = t.rows + 1;
+  cols = if t.rows == 0 then length words else t.cols;
+  cells = t.cells ++ words;
+  names = fold with_name t.names words;
+}
 
-abbrev pub rule : Kept → SaidRule → Result Kept ManifestFault
-rule k r = if nat_lt (length k.content.rules) 4096 && names_fit (names_said r) k.content.names
-    then Ok (with_rule k r (fold with_name k.content.names (names_said r))) else refused k
+abbrev pub with_colour : List ℕ → Told → Told
+with_colour text t = record t { colours = option_map (λ lines. lines ++ text ∷ []) t.colours }
 
--- a row
+abbrev pub with_entry : Entry → Told → Told
+with_entry (SettingEntry text) t = with_setting (setting_of text) t
+with_entry (RuleEntry text) t = with_rule (rule_of text) t
+with_entry (RowEntry words) t = with_row words t
+with_entry (ColourEntry text) t = with_colour text t
+with_entry NoEntry t = t
 
-abbrev pub with_cell : Kept → List ℕ → List (List ℕ) → Kept
-with_cell k name names = record k { content = record k.content { names = names; cells = k.content.cells ++ place_of names name ∷ [] } }
+-- the colours of a section that starts are there, if there are none yet
+abbrev pub with_start : Section → Told → Told
+with_start Rules t = t
+with_start Surface t = t
+with_start Colours t = record t { colours = Some (unwrap_or t.colours []) }
 
-abbrev pub cell : Kept → List ℕ → Result Kept ManifestFault
-cell k name = if nat_lt (length k.content.cells) 1048576 && (is_name name && not (is_full k.content.names name))
-    then Ok (with_cell k name (with_name k.content.names name)) else refused k
+-- what a line of this sort tells more, where this section is open
+abbrev pub told_after : Option Opened → LineSort → Told → Told
+told_after was (Starts s) t = with_start s t
+told_after was (Ends s) t = t
+told_after was Unknown t = t
+told_after was (Plain bare whole) t = with_entry (entry_at was (Plain bare whole)) t
 
-unfoldable pub cells : List (List ℕ) → Kept → Result Kept ManifestFault
-cells [] k = Ok k
-cells (name ∷ names) k = onward (cell k name) (cells names)
+-- A line
 
-abbrev pub with_row : Shape → ℕ → Kept → Kept
-with_row shape count k = record k { content = record k.content { lattice = record shape { rows = shape.rows + 1; cols = count } } }
+-- what is kept after a line of this sort with its number
+abbrev pub at_line : ℕ → Kept → LineSort → Kept
+at_line line k sort = record {
+  lines = line;
+  within = open_after sort line k.within;
+  rules_seen = starts Rules sort || k.rules_seen;
+  surface_seen = starts Surface sort || k.surface_seen;
+  told = told_after k.within sort k.told;
+}
 
--- at the end of a row, where the lattice was of this shape before it
-abbrev pub end_row : Shape → ℕ → Kept → Result Kept ManifestFault
-end_row shape count k = if nat_lt 0 shape.rows && not (count == shape.cols) then refused k else Ok (with_row shape count k)
+-- what is kept after a line of this sort
+abbrev pub after : Kept → LineSort → Kept
+after k sort = at_line (k.lines + 1) k sort
 
-abbrev pub row : Kept → List (List ℕ) → Result Kept ManifestFault
-row k names = onward (cells names k) (end_row k.content.lattice (length names))
+-- what is wrong with a line of this sort with its number
+abbrev pub fault_at : ℕ → Kept → LineSort → Option ManifestFault
+fault_at line k (Starts s) = start_fault (was_seen k s) line k.within
+fault_at line k (Ends s) = close_fault s k.told.rows line k.within
+fault_at line k Unknown = Some (fault UnknownSection line)
+fault_at line k (Plain bare whole) = option_map (λ kind. fault kind line) (entry_fault k.told (entry_at k.within (Plain bare whole)))
 
--- a line
-
-abbrev pub said : Kept → LineSort → Result Kept ManifestFault
-said k (Seed n) = Ok (record k { content = record k.content { seed = n } })
-said k (Duration n) = Ok (record k { content = record k.content { until = 1000000 * n } })
-said k StartRules = Ok k
-said k (RuleLine r) = rule k r
-said k EndRules = Ok k
-said k StartSurface = Ok k
-said k (Row names) = row k names
-said k EndSurface = Ok k
-said k Formless = refused k
-
-abbrev pub said_at : Kept → Option Stage → LineSort → Result Kept ManifestFault
-said_at k None sort = refused k
-said_at k (Some stage) sort = said (record k { stage = stage }) sort
-
-abbrev pub by_sort : Kept → LineSort → Result Kept ManifestFault
-by_sort k sort = said_at k (stage_after k.stage sort) sort
+abbrev pub by_sort : ℕ → Kept → LineSort → Result Kept ManifestFault
+by_sort line k sort = unless (fault_at line k sort) (Ok (at_line line k sort))
 
 -- what a line makes of what was kept
 abbrev pub next : Kept → Line → Result Kept ManifestFault
-next k line = by_sort (record k { lines = k.lines + 1 }) (sort_of line)
+next k line = by_sort (k.lines + 1) k (sort_of line)
 
 -- the manifest in the end
-abbrev pub ended : Bool → Kept → Result Manifest ManifestFault
-ended fed k = if fed then (if is_ended k.stage then Ok k.content else Err (not_built (k.lines + 1))) else refused k
-
--- the rows and columns are counts, and make a lattice in the end
-abbrev pub IsLattice : Stage → ℕ → ℕ → Type 0
-IsLattice Ended rows cols = IsSize rows cols
-IsLattice stage rows cols = Unit {0}
-
-pub record IsSized (k : Kept) : Type 0 where
-  pub rows : k.content.lattice.rows ≤ 2 ^ 20
-  pub cols : k.content.lattice.cols ≤ 2 ^ 20
-  pub lattice : IsLattice k.stage k.content.lattice.rows k.content.lattice.cols
-
--- The reader's values
-
-abbrev pub stage_by : codes.Stage → Stage
-stage_by at.Start = Start
-stage_by at.AfterSeed = AfterSeed
-stage_by at.AfterDuration = AfterDuration
-stage_by at.InRules = InRules
-stage_by at.AfterRules = AfterRules
-stage_by at.InSurface = InSurface
-stage_by at.InRows = InRows
-stage_by at.Ended = Ended
-
--- what a line is, if a line of no other form is a row
-abbrev pub row_sort : Sort → LineSort
-row_sort (code.Seed n) = Seed n
-row_sort (code.Duration whole) = Duration whole.value
-row_sort code.StartRules = StartRules
-row_sort (code.Rule rule) = seen (code.Rule rule)
-row_sort code.EndRules = EndRules
-row_sort code.StartSurface = StartSurface
-row_sort code.EndSurface = EndSurface
-row_sort (code.Plain line) = Row (pieces_of line.now)
-
-abbrev pub kept : State → Kept
-kept s = record {
-  lines = s.lines;
-  stage = stage_by s.stage;
-  content = record {
-    seed = s.seed;
-    until = s.until;
-    lattice = record { kind = Square; rows = s.rows; cols = s.cols; wrap = false };
-    others = [];
-    names = s.names;
-    rules = s.rules;
-    cells = s.cells;
-    colours = None;
-  };
-}
-
--- What a call answered is the outcome, unless memory ran out.
-abbrev pub Fails : {B : Type 0} → ManifestError → Result B ManifestFault → Type 0
-Fails errors.Memory outcome = Unit {0}
-Fails (errors.Fault f) outcome = outcome ≡ Err f
-
-abbrev pub Takes : {A : Type 0} → Result A ManifestError → Kept → Result Kept ManifestFault → Type 0
-Takes (Ok x) k outcome = outcome ≡ Ok k
-Takes (Err e) k outcome = Fails e outcome
-
-abbrev pub Gives : Result Manifest ManifestError → Result Manifest ManifestFault → Type 0
-Gives (Ok m) outcome = outcome ≡ Ok m
-Gives (Err e) outcome = Fails e outcome
+abbrev pub ended : Kept → Result Manifest ManifestFault
+ended k = unless (end_verdict_of k.within k.surface_seen (k.lines + 1)) (Ok (manifest_by k.told))

@@ -3,15 +3,54 @@
 /// The kinds of faults.
 #[derive(Clone, Copy, Debug, PartialEq, Eq)]
 pub enum ManifestKind {
-    /// The line hasn't the form that is wanted in its place.
-    NotBuilt,
+    /// The text isn't UTF-8.
+    NotUtf8,
+    /// A section line that names no section, or one that isn't open.
+    UnknownSection,
+    /// The section was there before.
+    SectionTwice,
+    /// The section that the line opened is still open at another start, or at the end of the text.
+    SectionOpen,
+    /// There is no initial surface.
+    SectionMissing,
+    /// A setting without `=` or without a name.
+    BadSetting,
+    /// A setting of this name was there before.
+    SettingTwice,
+    /// `rng_seed` is no number of 1 to 20 digits below 2^64.
+    BadSeed,
+    /// `max_duration` is no decimal, or is above 10^9 units.
+    BadDuration,
+    /// `lattice` is neither `square` nor `hex`.
+    BadLattice,
+    /// `wrap` is none of `true`, `True`, `false` and `False`.
+    BadWrap,
+    /// The rate of a rule isn't closed, or is no rate.
+    BadRate,
+    /// A rule without an arrow, or with a piece that is no name.
+    BadRule,
+    /// The two sides of a rule don't have one name each, or two each.
+    BadArity,
+    /// A row has another number of names than the first one.
+    RaggedRow,
+    /// A word of a row that is no name.
+    BadName,
+    /// The initial surface has no rows.
+    NoSites,
+    /// More than 2^20 sites.
+    TooManySites,
+    /// More than 4,096 rules.
+    TooManyRules,
+    /// More than 4,096 species.
+    TooManySpecies,
 }
 
 /// The first fault of a manifest.
 #[derive(Clone, Copy, Debug, PartialEq, Eq)]
 pub struct ManifestFault {
     pub kind: ManifestKind,
-    /// The number of the line, from 1. A text that ends early has the number of its lines plus 1.
+    /// The number of the line, from 1; of `SectionOpen` that of the line that opened the section. Of `NotUtf8` it is
+    /// how many bytes of the text are the longest part of its front that is UTF-8.
     pub at: u64,
 }
 

@@ -30,6 +30,13 @@ impl<T: Drop> Items<T> {
         }
     }
 
+    /// The values of a vector.
+    pub(crate) fn of(items: Vec<T>) -> Items<T>
+        ensures { result ≡ items.items }
+    {
+        Items { items }
+    }
+
     /// Puts a value last. After an error the list is as it was.
     pub fn push(&mut self, item: T) -> Result<(), NoMemory>
         ensures ok { OnOk result (self.new ≡ self.old ++ item ∷ []) }

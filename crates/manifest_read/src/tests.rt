@@ -8,112 +8,222 @@ fn needs_sync<T: Sync>(value: T) -> T {
     value
 }
 
-/// The line of the fault of a text.
-fn fault_line(alloc: Global, text: &[u8]) -> Option<u64> {
+/// The fault of a text.
+fn fault_of(alloc: Global, text: &[u8]) -> Option<ManifestFault> {
     if text.len() > 1_000_000 {
         return None;
     }
     match read_manifest(alloc, text) {
-        Err(ManifestError::Fault(fault)) => Some(fault.at),
+        Err(ManifestError::Fault(fault)) => Some(fault),
         _ => None,
     }
 }
 
-const WHOLE: &[u8] =
-    b"rng_seed = 18446744073709551615\nmax_duration = 1000000000\n!START_TRANSITION_RULES\n(3) Q -> B2\n(0) A + B2 -> B2 + A\n!END_TRANSITION_RULES\n!START_INIT_STATE\nA z\nB2 Q\nQ A\n!END_INIT_STATE\n";
+fn at(kind: ManifestKind, at: u64) -> Option<ManifestFault> {
+    Some(ManifestFault { kind, at })
+}
+
+const DEMO: &[u8] =
+    b"# Demo\npixels_per_node = 50\nrng_seed\t= 7\t# a seed\nmax_duration = 2.50\nfps = 60\n\n!START_TRANSITION_RULES\n(1) A + B -> B + A\n(0.25)\tC->A\n!END_TRANSITION_RULES\n\n!START_INIT_STATE\nA B\nC  A\n!END_INIT_STATE\n\n!START_COLORMAP\nA: (255, 0, 0)\n!END_COLORMAP\n";
 
 #[test]
 fn a_manifest_is_read_whole(rt: HostRuntime) -> Result<(), Fail> {
-    let read = needs_sync(read_manifest(rt.alloc(), WHOLE)?);
-    assert_eq!(rt; read.seed, u64::MAX);
-    assert_eq!(rt; read.until, 1_000_000_000_000_000);
+    let read = needs_sync(read_manifest(rt.alloc(), DEMO)?);
+    assert_eq!(rt; read.seed, 7);
+    assert_eq!(rt; read.until, 2_500_000);
     assert!(rt; read.lattice.kind() == Kind::Square);
     assert!(rt; !read.lattice.wrap());
-    assert_eq!(rt; read.lattice.rows(), 3);
+    assert_eq!(rt; read.lattice.rows(), 2);
     assert_eq!(rt; read.lattice.cols(), 2);
-    assert!(rt; read.others.as_slice().is_empty());
-    assert!(rt; read.colours.is_none());
-    assert_eq!(rt; read.names.count(), 4);
-    for (name, number) in [("Q", 0), ("B2", 1), ("A", 2), ("z", 3)] {
+    let others = read.others.as_slice();
+    assert_eq!(rt; others.len(), 2);
+    assert_eq!(rt; others[0].name.as_str(), "pixels_per_node");
+    assert_eq!(rt; others[0].value.as_str(), "50");
+    assert_eq!(rt; others[1].name.as_str(), "fps");
+    assert_eq!(rt; others[1].value.as_str(), "60");
+    assert_eq!(rt; read.names.count(), 3);
+    for (name, number) in [("A", 0), ("B", 1), ("C", 2)] {
         assert_eq!(rt; read.names.find(name), Some(SpeciesId(number)));
     }
-    let one = Rule::One {
-        rate: Rate { p: 3, q: 1 },
-        a: SpeciesId(0),
-        c: SpeciesId(1),
-    };
+    Ok(())
+}
+
+#[test]
+fn rules_rows_and_colours_are_read(rt: HostRuntime) -> Result<(), Fail> {
+    let read = read_manifest(rt.alloc(), DEMO)?;
+    let [a, b, c] = [SpeciesId(0), SpeciesId(1), SpeciesId(2)];
     let two = Rule::Two {
-        rate: Rate { p: 0, q: 1 },
-        a: SpeciesId(2),
-        b: SpeciesId(1),
-        c: SpeciesId(1),
-        d: SpeciesId(2),
+        rate: Rate { p: 1, q: 1 },
+        a,
+        b,
+        c: b,
+        d: a,
     };
-    assert_eq!(rt; read.rules.as_slice(), [one, two].as_slice());
-    let cells = [2, 3, 1, 0, 0, 2];
-    assert_eq!(rt; read.cells.as_slice().len(), cells.len());
-    for (cell, number) in read.cells.as_slice().iter().zip(&cells) {
-        assert_eq!(rt; cell.0, *number);
+    let one = Rule::One {
+        rate: Rate { p: 1, q: 4 },
+        a: c,
+        c: a,
+    };
+    assert_eq!(rt; read.rules.as_slice(), [two, one].as_slice());
+    assert_eq!(rt; read.cells.as_slice(), [a, b, c, a].as_slice());
+    let colours = read.colours.as_ref().ok_or("no colours")?.as_slice();
+    assert_eq!(rt; colours.len(), 1);
+    assert_eq!(rt; colours[0].as_str(), "A: (255, 0, 0)");
+    Ok(())
+}
+
+#[test]
+fn names_are_numbered_by_the_rules_first(rt: HostRuntime) -> Result<(), Fail> {
+    let text =
+        b"\xef\xbb\xbflattice = hex\r\nwrap = True\r\nempty =\r\n!START_INIT_STATE\r\nB A\r\n!END_INIT_STATE\r\n!START_COLORMAP\r\n\r\n # B: red \r\n!END_COLORMAP\r\n!START_TRANSITION_RULES\r\nA -> C # decay\r\n!END_TRANSITION_RULES";
+    let read = read_manifest(rt.alloc(), text)?;
+    assert!(rt; read.lattice.kind() == Kind::Hex);
+    assert!(rt; read.lattice.wrap());
+    assert_eq!(rt; read.until, 100_000_000);
+    for (name, number) in [("A", 0), ("C", 1), ("B", 2)] {
+        assert_eq!(rt; read.names.find(name), Some(SpeciesId(number)));
     }
+    assert_eq!(rt;
+        read.cells.as_slice(),
+        [SpeciesId(2), SpeciesId(0)].as_slice()
+    );
+    let others = read.others.as_slice();
+    assert_eq!(rt; others.len(), 1);
+    assert_eq!(rt; others[0].name.as_str(), "empty");
+    assert_eq!(rt; others[0].value.as_str(), "");
+    let colours = read.colours.as_ref().ok_or("no colours")?.as_slice();
+    assert_eq!(rt; colours.len(), 1);
+    assert_eq!(rt; colours[0].as_str(), "# B: red");
     Ok(())
 }
 
 #[test]
-fn the_first_fault_is_found(rt: HostRuntime) -> Result<(), Fail> {
-    let alloc = rt.alloc();
-    assert_eq!(rt; fault_line(alloc, b"".as_slice()), Some(1));
-    assert_eq!(rt;
-        fault_line(
-            alloc,
-            b"!START_TRANSITION_RULES\n(1) A + B - B + A\n".as_slice()
+fn faults_of_sections_are_found(rt: HostRuntime) {
+    for (text, kind, line) in [
+        ("", ManifestKind::SectionMissing, 1),
+        ("!INCLUDE x", ManifestKind::UnknownSection, 1),
+        ("!END_INIT_STATE", ManifestKind::UnknownSection, 1),
+        ("!START_INIT_STATE\nA", ManifestKind::SectionOpen, 1),
+        (
+            "\n!START_INIT_STATE\n!START_COLORMAP",
+            ManifestKind::SectionOpen,
+            2,
         ),
-        Some(2)
-    );
-    // a last line without a line feed, and a line after the end
-    assert_eq!(rt;
-        fault_line(
-            alloc,
-            b"!START_TRANSITION_RULES\n!END_TRANSITION_RULES\n!START_INIT_STATE\nA\n!END_INIT_STATE".as_slice()
+        (
+            "!START_INIT_STATE\n!END_INIT_STATE",
+            ManifestKind::NoSites,
+            2,
         ),
-        Some(5)
-    );
-    assert_eq!(rt;
-        fault_line(
-            alloc,
-            b"!START_TRANSITION_RULES\n!END_TRANSITION_RULES\n!START_INIT_STATE\nA\n!END_INIT_STATE\n\n".as_slice()
+        (
+            "!START_COLORMAP\n!END_COLORMAP\n!START_COLORMAP",
+            ManifestKind::SectionTwice,
+            3,
         ),
-        Some(6)
-    );
-    // a row that is not as long as the first one, and a byte that is no UTF-8 behind it
-    assert_eq!(rt;
-        fault_line(
-            alloc,
-            b"!START_TRANSITION_RULES\n!END_TRANSITION_RULES\n!START_INIT_STATE\nA B\nA\n\xff\n".as_slice()
-        ),
-        Some(5)
-    );
-    assert_eq!(rt;
-        fault_line(alloc, b"max_duration = 1000000001\n".as_slice()),
-        Some(1)
-    );
-    assert_eq!(rt;
-        fault_line(alloc, b"rng_seed = 18446744073709551616\n".as_slice()),
-        Some(1)
-    );
-    Ok(())
+    ] {
+        assert_eq!(rt; fault_of(rt.alloc(), text.as_bytes()), at(kind, line));
+    }
 }
 
 #[test]
-fn no_more_than_4096_rules_are_read(rt: HostRuntime) -> Result<(), Fail> {
+fn faults_of_settings_are_found(rt: HostRuntime) {
+    for (text, kind, line) in [
+        ("a = 1\nwrap", ManifestKind::BadSetting, 2),
+        (" = 5", ManifestKind::BadSetting, 1),
+        ("wrap = true\nwrap = true", ManifestKind::SettingTwice, 2),
+        ("wrap = true\nwrap = yes", ManifestKind::SettingTwice, 2),
+        ("rng_seed = -1", ManifestKind::BadSeed, 1),
+        ("rng_seed = 18446744073709551616", ManifestKind::BadSeed, 1),
+        ("max_duration = 1000000001", ManifestKind::BadDuration, 1),
+        ("lattice = triangle", ManifestKind::BadLattice, 1),
+        ("wrap = yes", ManifestKind::BadWrap, 1),
+        ("wrap =", ManifestKind::BadWrap, 1),
+    ] {
+        assert_eq!(rt; fault_of(rt.alloc(), text.as_bytes()), at(kind, line));
+    }
+}
+
+#[test]
+fn faults_of_rules_and_rows_are_found(rt: HostRuntime) {
+    for (text, kind, line) in [
+        (
+            "!START_TRANSITION_RULES\n(1000000000",
+            ManifestKind::BadRate,
+            2,
+        ),
+        (
+            "!START_TRANSITION_RULES\n(1000000000) A + B ->",
+            ManifestKind::BadRule,
+            2,
+        ),
+        (
+            "!START_TRANSITION_RULES\n(1000000000) A + B -> A",
+            ManifestKind::BadArity,
+            2,
+        ),
+        (
+            "!START_TRANSITION_RULES\n(1000000000) A + B -> A + C",
+            ManifestKind::SectionOpen,
+            1,
+        ),
+        (
+            "!START_TRANSITION_RULES\nA -> B\n!END_TRANSITION_RULE",
+            ManifestKind::UnknownSection,
+            3,
+        ),
+        (
+            "!START_TRANSITION_RULES\nA -> B\n!END_TRANSITION_RULES",
+            ManifestKind::SectionMissing,
+            4,
+        ),
+        (
+            "!START_TRANSITION_RULES\nA -> B\n!END_TRANSITION_RULES\n!START_INIT_STATE\nB A B",
+            ManifestKind::SectionOpen,
+            4,
+        ),
+        (
+            "!START_INIT_STATE\nA B\nA B\nA\n!END_INIT_STATE",
+            ManifestKind::RaggedRow,
+            4,
+        ),
+        ("!START_INIT_STATE\nA (B", ManifestKind::BadName, 2),
+        ("!START_INIT_STATE\nA B\nA->B", ManifestKind::RaggedRow, 3),
+    ] {
+        assert_eq!(rt; fault_of(rt.alloc(), text.as_bytes()), at(kind, line));
+    }
+}
+
+#[test]
+fn bytes_before_a_bad_one_are_counted(rt: HostRuntime) {
+    for (text, count) in [
+        (b"\xff".as_slice(), 0),
+        (b"\xef\xbb\xbfa\xff".as_slice(), 4),
+        (b"!INCLUDE x\n\xff".as_slice(), 11),
+    ] {
+        assert_eq!(rt;
+            fault_of(rt.alloc(), text),
+            at(ManifestKind::NotUtf8, count)
+        );
+    }
+}
+
+#[test]
+fn no_more_than_4096_rules_and_names_are_read(rt: HostRuntime) -> Result<(), Fail> {
     let alloc = rt.alloc();
-    let mut text = b"!START_TRANSITION_RULES\n".to_vec(alloc)?;
+    let mut rules = b"!START_TRANSITION_RULES\n".to_vec(alloc)?;
     for _ in 0..4096 {
-        text.extend_from_slice(b"(1) A -> B\n")?;
+        rules.extend_from_slice(b"A -> B\n")?;
     }
-    assert_eq!(rt; fault_line(alloc, &text), Some(4098));
-    text.extend_from_slice(b"(1) A -> B\n")?;
-    text.extend_from_slice(b"!\n")?;
-    assert_eq!(rt; fault_line(alloc, &text), Some(4098));
+    assert_eq!(rt; fault_of(alloc, &rules), at(ManifestKind::SectionOpen, 1));
+    rules.extend_from_slice(b"A -> B\n")?;
+    assert_eq!(rt;
+        fault_of(alloc, &rules),
+        at(ManifestKind::TooManyRules, 4098)
+    );
+    let mut row = b"!START_INIT_STATE\n".to_vec(alloc)?;
+    for number in 0..4097 {
+        row.extend_from_slice(format!(in alloc; "{number} ")?.as_bytes())?;
+    }
+    assert_eq!(rt; fault_of(alloc, &row), at(ManifestKind::TooManySpecies, 2));
     Ok(())
 }
 

@@ -1,13 +1,16 @@
-use Rattle.std.proofs.Common.{◌≡◌, ◌+◌, length}
-use Rattle.manifest_read.specs.Steps.{kept}
+use Rattle.std.proofs.Common.{length}
+use denote.Text.{Utf8}
+use denote.Shadow.{shadow}
+use Rattle.surf_text.specs.Lines.{lines_of}
+use Rattle.manifest_read.specs.Views.{kept}
 use Rattle.manifest_read.proofs.Outcomes.{Reads}
 use Rattle.manifest_read.proofs.reading.read_lines.Given as goal
 
-abbrev pub invariant-loop-line : goal.invariant-loop-line
-invariant-loop-line l = record {
-  reads : Reads l.text l.cursor.lines (kept l.state);
-  number : l.cursor.number ≡ l.state.lines + 1;
+abbrev pub invariant-loop-rest : goal.invariant-loop-rest
+invariant-loop-rest l = record {
+  text : shadow (Utf8 l.rest);
+  reads : Reads l.text (lines_of l.rest) (kept l.state);
 }
 
-abbrev pub decreases-loop-line : goal.decreases-loop-line
-decreases-loop-line l = length l.cursor.lines
+abbrev pub decreases-loop-rest : goal.decreases-loop-rest
+decreases-loop-rest l = length l.rest

@@ -1,0 +1,243 @@
+//! What the lines of a manifest told so far.
+
+ghost use Rattle.std.specs.Prelude.{◌≡◌, ◌<◌, ◌+◌, ◌^◌, ◌&&◌, ◌==◌, not, nat_lt, IfOk, if◌then◌else◌};
+ghost use Rattle.surf_text.specs.Cuts.{words_of};
+ghost use Rattle.manifest_read.specs.Manifest.{SettingEntry, RuleEntry, RowEntry, ColourEntry, entry_at, is_ragged, manifest_by};
+ghost use Rattle.lattice.specs.Shape.{IsSize};
+ghost use Rattle.manifest_read.specs.Sorts.{Plain};
+ghost use Rattle.manifest_read.specs.Views.{told_of, Enters, entered, start_told, text_at, form_at, Fills, cells_said};
+
+use crate::fault::ManifestKind;
+use crate::manifest::{LineList, Manifest};
+use crate::names::{Words, count_words, is_name};
+use crate::rules::read_rule;
+use crate::said::Said;
+use crate::section::{Opened, Section};
+use crate::settings::{SaidSettings, setting_parts, value_fault};
+use crate::text::Text;
+use lattice::Lattice;
+use species::NameError;
+use std::alloc::Global;
+use surf_kinds::NoMemory;
+
+const MOST_RULES: usize = 4096;
+
+const MOST_SITES: usize = 1_048_576;
+
+/// Why a line was refused.
+#[derive(Clone, Copy, Debug, PartialEq, Eq)]
+pub(crate) enum Refusal {
+    Kind(ManifestKind),
+    /// Memory ran out.
+    Memory,
+}
+
+/// What the lines told so far.
+#[derive(Drop)]
+pub(crate) struct Content {
+    pub(crate) settings: SaidSettings,
+    pub(crate) said: Said,
+    pub(crate) rows: usize,
+    /// The number of names in a row.
+    pub(crate) cols: usize,
+    /// The lines of the colour section, where that was there.
+    pub(crate) colours: Option<LineList>,
+}
+
+/// Whether a row of so many names is not as long as the first one.
+fn is_ragged(rows: usize, cols: usize, count: usize) -> bool
+    ensures { result ≡ is_ragged rows cols count }
+{
+    rows > 0 && count != cols
+}
+
+/// Whether there are too many sites with those of one more row.
+fn is_too_wide(sites: usize, count: usize) -> bool
+    ensures { result ≡ nat_lt 1048576 (sites + count) }
+{
+    count > MOST_SITES || sites > MOST_SITES - count
+}
+
+/// How many names a row has, by the first one.
+fn row_width(rows: usize, cols: usize, count: usize) -> usize
+    ensures { result ≡ (if rows == 0 then count else cols) }
+{
+    if rows == 0 { count } else { cols }
+}
+
+/// Takes the names of a row.
+fn take_cells(said: &mut Said, text: &str) -> Result<(), Refusal>
+    ensures { Fills result said.new (cells_said (words_of text.now) said.old) }
+{
+    let mut words = Words::new(text);
+    while let Some(word) = words.next_word() {
+        if !is_name(word) {
+            return Err(Refusal::Kind(ManifestKind::BadName));
+        }
+        match said.cell(word) {
+            Ok(()) => {}
+            Err(NameError::TooMany) => return Err(Refusal::Kind(ManifestKind::TooManySpecies)),
+            Err(NameError::Memory) => return Err(Refusal::Memory),
+        }
+    }
+    Ok(())
+}
+
+impl Content {
+    /// Nothing.
+    pub(crate) fn new(alloc: Global) -> Content
+        ensures { told_of result ≡ start_told }
+    {
+        Content {
+            settings: SaidSettings::new(alloc),
+            said: Said::new(alloc),
+            rows: 0,
+            cols: 0,
+            colours: None,
+        }
+    }
+
+    fn setting(&mut self, alloc: Global, text: &str) -> Result<(), Refusal>
+        ensures entered { Enters result (told_of self.new) (entered (told_of self.old) (SettingEntry text.now)) }
+    {
+        let Some((name, value)) = setting_parts(text) else {
+            return Err(Refusal::Kind(ManifestKind::BadSetting));
+        };
+        if self.settings.has(name) {
+            return Err(Refusal::Kind(ManifestKind::SettingTwice));
+        }
+        if let Some(kind) = value_fault(name, value) {
+            return Err(Refusal::Kind(kind));
+        }
+        match self.settings.add(alloc, name, value) {
+            Ok(()) => Ok(()),
+            Err(_) => Err(Refusal::Memory),
+        }
+    }
+
+    fn rule(&mut self, text: &str) -> Result<(), Refusal>
+        ensures entered { Enters result (told_of self.new) (entered (told_of self.old) (RuleEntry text.now)) }
+    {
+        let rule = match read_rule(text) {
+            Ok(rule) => rule,
+            Err(kind) => return Err(Refusal::Kind(kind)),
+        };
+        if self.said.rule_count() >= MOST_RULES {
+            return Err(Refusal::Kind(ManifestKind::TooManyRules));
+        }
+        match self.said.rule(&rule) {
+            Ok(()) => Ok(()),
+            Err(NameError::TooMany) => Err(Refusal::Kind(ManifestKind::TooManySpecies)),
+            Err(NameError::Memory) => Err(Refusal::Memory),
+        }
+    }
+
+    fn row(&mut self, text: &str) -> Result<(), Refusal>
+        requires { self.old.rows < 2 ^ 63 }
+        ensures entered { Enters result (told_of self.new) (entered (told_of self.old) (RowEntry (words_of text.now))) }
+    {
+        let count = count_words(text);
+        if is_ragged(self.rows, self.cols, count) {
+            return Err(Refusal::Kind(ManifestKind::RaggedRow));
+        }
+        if is_too_wide(self.said.cell_count(), count) {
+            return Err(Refusal::Kind(ManifestKind::TooManySites));
+        }
+        match take_cells(&mut self.said, text) {
+            Ok(()) => {}
+            Err(refusal) => return Err(refusal),
+        }
+        self.cols = row_width(self.rows, self.cols, count);
+        self.rows += 1;
+        Ok(())
+    }
+
+    fn colour(&mut self, alloc: Global, text: &str) -> Result<(), Refusal>
+        ensures entered { Enters result (told_of self.new) (entered (told_of self.old) (ColourEntry text.now)) }
+    {
+        let Ok(line) = Text::new(alloc, text) else {
+            return Err(Refusal::Memory);
+        };
+        if let Some(lines) = &mut self.colours {
+            let Ok(()) = lines.push(line) else {
+                return Err(Refusal::Memory);
+            };
+        }
+        Ok(())
+    }
+
+    /// Takes the text of a line that is not empty.
+    fn enter_text(
+        &mut self,
+        alloc: Global,
+        within: Option<Opened>,
+        text: &str,
+    ) -> Result<(), Refusal>
+        requires { self.old.rows < 2 ^ 63 }
+        ensures entered { Enters result (told_of self.new) (entered (told_of self.old) (form_at within text.now)) }
+    {
+        let Some(opened) = within else {
+            return self.setting(alloc, text);
+        };
+        match opened.section {
+            Section::Rules => self.rule(text),
+            Section::Surface => self.row(text),
+            Section::Colours => self.colour(alloc, text),
+        }
+    }
+
+    /// Takes a line that is no section line.
+    pub(crate) fn enter(
+        &mut self,
+        alloc: Global,
+        within: Option<Opened>,
+        bare: &str,
+        whole: &str,
+    ) -> Result<(), Refusal>
+        requires { self.old.rows < 2 ^ 63 }
+        ensures entered { Enters result (told_of self.new) (entered (told_of self.old) (entry_at within (Plain bare.now whole.now))) }
+    {
+        let text = entry_text(within, bare, whole);
+        if text.is_empty() {
+            return Ok(());
+        }
+        self.enter_text(alloc, within, text)
+    }
+}
+
+/// The text of an entry: comments are not removed in the colour section.
+fn entry_text<'a>(within: Option<Opened>, bare: &'a str, whole: &'a str) -> &'a str
+    ensures { result.now ≡ text_at within bare.now whole.now }
+{
+    match within {
+        Some(opened) if opened.section == Section::Colours => whole,
+        _ => bare,
+    }
+}
+
+/// The manifest that the lines told.
+pub(crate) fn finished(alloc: Global, content: Content) -> Result<Manifest, NoMemory>
+    requires { IsSize content.rows content.cols }
+    ensures { IfOk result (λ m. m ≡ manifest_by (told_of content)) }
+{
+    let known = content.settings.known();
+    let numbered = match content.said.numbered(alloc) {
+        Ok(numbered) => numbered,
+        Err(error) => return Err(error),
+    };
+    let rows = content.rows as u32;
+    let cols = content.cols as u32;
+    let Ok(lattice) = Lattice::new(known.kind, rows, cols, known.wrap) else {
+        unreachable!()
+    };
+    Ok(Manifest {
+        seed: known.seed,
+        until: known.until,
+        lattice,
+        others: known.others,
+        names: numbered.names,
+        rules: numbered.rules,
+        cells: numbered.cells,
+        colours: content.colours,
+    })
+}

@@ -1,0 +1,5 @@
+use Rattle.manifest_write.proofs.OneSpelling.{same-text}
+use Rattle.manifest_write.proofs.laws.one_spelling.Goals as goal
+
+pub returns : goal.returns
+returns c = same-text

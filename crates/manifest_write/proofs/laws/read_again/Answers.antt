@@ -1,0 +1,5 @@
+use Rattle.manifest_write.proofs.OneSpelling.{again}
+use Rattle.manifest_write.proofs.laws.read_again.Goals as goal
+
+pub returns : goal.returns
+returns c = again
