@@ -1,5 +1,12 @@
+mod Messages
+mod Values
+mod RunEnds
+mod Statuses
+mod BytesRead
+mod Batches
+mod Endings
+mod Firing
+mod Sampling
+mod Showing
+mod Telling
 mod Written
-mod Grows
-mod TextSteps
-mod RunSteps
-pub mod Messages

@@ -1,12 +1,12 @@
 -- Texts that are written one after the other.
 use Rattle.std.proofs.Common.{◌≡◌, ℕ, ◌≤◌, List, [], ◌++◌, Option, Some, None, sym, ap, ◌∙◌, append_assoc, append-nil, arith, subst}
+use Rattle.std.specs.Prelude.{Result, Ok, Err}
 use Rattle.std.specs.Io.KnownBytes.{Appends}
 use Rattle.surf_outside.specs.Known.{AppendsPrefix}
-use Rattle.surf_outside.proofs.Gains.{appends_more, prefix_whole, prefix_more, prefix_longer}
-use Rattle.surface_top.specs.declared.pages.WriteError.{WriteError}
-use Rattle.surface_top.specs.declared.pages.WriteError.TheVariants as errors
-use Rattle.std.specs.Prelude.{Result, Ok, Err}
-use Rattle.surface_top.specs.Pages.{Page, Wrote, Stopped, Puts, IsWriteCause}
+use Rattle.surf_outside.proofs.Gains.{appends_more, prefix_more, prefix_longer}
+use Rattle.surface_top.specs.declared.pages.Stop.{Stop}
+use Rattle.surface_top.specs.declared.pages.Stop.TheVariants as stops
+use Rattle.surface_top.specs.Pages.{Page, Wrote, Stopped, Sent, StopsWith, Sends, IsFailure}
 
 pub appends_none : (a : Option (List ℕ)) → Appends a a []
 appends_none None = tt
@@ -25,56 +25,50 @@ wrote_more a b c x y p q = record {
   later = omega (arith, p.later, q.later);
 }
 
-cause_before : (e : WriteError) (n m k : ℕ) → n ≤ m → IsWriteCause e m k → IsWriteCause e n k
-cause_before errors.Write n m k h c = omega (arith, h, c)
-cause_before errors.Memory n m k h c = tt
+failure_before : (stop : Stop) (n m k : ℕ) → n ≤ m → IsFailure stop m k → IsFailure stop n k
+failure_before stops.Limit n m k h c = absurd c
+failure_before stops.Write n m k h c = omega (arith, h, c)
+failure_before stops.Memory n m k h c = tt
 
--- one text, and then a fault within another
-pub stopped_after : (a b c : Page) (x y : List ℕ) (e : WriteError) → Wrote a b x → Stopped b c y e → Stopped a c (x ++ y) e
-stopped_after a b c x y e p q = record {
+-- one text, and then a failure within another
+pub stopped_after : (a b c : Page) (x y : List ℕ) (stop : Stop) → Wrote a b x → Stopped b c y stop → Stopped a c (x ++ y) stop
+stopped_after a b c x y stop p q = record {
   prefix = subst (AppendsPrefix a.held c.held)
       (sym (sym (append_assoc a.pending x y) ∙ (ap (λ l. l ++ y) p.rest ∙ append_assoc p.sent b.pending y)))
       (prefix_more a.held b.held c.held p.sent (b.pending ++ y) p.gone q.prefix);
   later = omega (arith, p.later, q.later);
-  cause = cause_before e a.faults b.faults c.faults p.later q.cause;
+  cause = failure_before stop a.faults b.faults c.faults p.later q.cause;
 }
 
--- a fault within a text is one within a longer text
-pub stopped_longer : (a b : Page) (x y : List ℕ) (e : WriteError) → Stopped a b x e → Stopped a b (x ++ y) e
-stopped_longer a b x y e p = record {
+-- a failure within a text is one within a longer text
+pub stopped_longer : (a b : Page) (x y : List ℕ) (stop : Stop) → Stopped a b x stop → Stopped a b (x ++ y) stop
+stopped_longer a b x y stop p = record {
   prefix = subst (AppendsPrefix a.held b.held) (append_assoc a.pending x y) (prefix_longer a.held b.held (a.pending ++ x) y p.prefix);
   later = p.later;
   cause = p.cause;
 }
-
--- memory ran out behind a text
-pub stopped_behind : (a b : Page) (x y : List ℕ) → Wrote a b x → Stopped a b (x ++ y) errors.Memory
-stopped_behind a b x y p = stopped_longer a b x y errors.Memory (record {
-  prefix = subst (AppendsPrefix a.held b.held) (sym p.rest) (prefix_longer a.held b.held p.sent b.pending (prefix_whole a.held b.held p.sent p.gone));
-  later = p.later;
-  cause = tt;
-})
 
 -- all that pended was sent
 pub wrote_all : (a b : Page) (x : List ℕ) → Wrote a b x → a.pending ≡ [] → b.pending ≡ [] → Appends a.held b.held x
 wrote_all a b x p h k =
     subst (Appends a.held b.held) (sym (append-nil p.sent) ∙ (ap (λ l. p.sent ++ l) (sym k) ∙ (sym p.rest ∙ ap (λ l. l ++ x) h))) p.gone
 
--- a call after a text
-pub and_then : {T : Type 0} (a b c : Page) (x y : List ℕ) (r : Result T WriteError) → Wrote a b x → Puts b c y r → Puts a c (x ++ y) r
-and_then a b c x y (Ok v) p q = wrote_more a b c x y p q
-and_then a b c x y (Err e) p q = stopped_after a b c x y e p q
+-- the text that was written is a whole text
+pub sent_as : (a b : Page) (x y : List ℕ) → x ≡ y → Sent a b x → Sent a b y
+sent_as a b x y e p = subst (Sent a b) e p
 
--- a call that stopped within a text, which goes on
-pub stops : (a b : Page) (x y z : List ℕ) (e : WriteError) → Stopped a b x e → x ++ y ≡ z → Stopped a b z e
-stops a b x y z e p h = subst (λ l. Stopped a b l e) h (stopped_longer a b x y e p)
+-- what stopped with a text, stopped so behind another
+pub stops_after : (a b c : Page) (x y : List ℕ) (stop : Stop) → Wrote a b x → StopsWith b c y stop → StopsWith a c (x ++ y) stop
+stops_after a b c x y stops.Limit p q = record { wrote = wrote_more a b c x y p q.wrote; none = q.none }
+stops_after a b c x y stops.Write p q = stopped_after a b c x y stops.Write p q
+stops_after a b c x y stops.Memory p q = stopped_after a b c x y stops.Memory p q
 
--- the same with an equal text
-pub puts_as : {T : Type 0} (a b : Page) (x y : List ℕ) (r : Result T WriteError) → x ≡ y → Puts a b x r → Puts a b y r
-puts_as a b x y r e p = subst (λ l. Puts a b l r) e p
+pub sends_after : {T : Type 0} (a b c : Page) (x y : List ℕ) (r : Result T Stop) → Wrote a b x → Sends b c y r → Sends a c (x ++ y) r
+sends_after a b c x y (Ok v) p q = record { wrote = wrote_more a b c x y p q.wrote; none = q.none }
+sends_after a b c x y (Err stop) p q = stops_after a b c x y stop p q
 
-pub wrote_as : (a b : Page) (x y : List ℕ) → x ≡ y → Wrote a b x → Wrote a b y
-wrote_as a b x y e p = subst (Wrote a b) e p
-
-pub stopped_as : (a b : Page) (x y : List ℕ) (e : WriteError) → x ≡ y → Stopped a b x e → Stopped a b y e
-stopped_as a b x y e h p = subst (λ l. Stopped a b l e) h p
+-- a failure within the first part of a text stops the whole of it
+pub stops_within : (a b : Page) (x y : List ℕ) (stop : Stop) → Stopped a b x stop → StopsWith a b (x ++ y) stop
+stops_within a b x y stops.Limit p = absurd p.cause
+stops_within a b x y stops.Write p = stopped_longer a b x y stops.Write p
+stops_within a b x y stops.Memory p = stopped_longer a b x y stops.Memory p

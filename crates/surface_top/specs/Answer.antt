@@ -1,50 +1,93 @@
 -- What the program answers to words and bytes.
-use Rattle.std.specs.Prelude.{ℕ, List, [], length, Option, Some, None, Result, Ok, Err, nat_lt, if◌then◌else◌}
-use Rattle.std.specs.Option.{option_map}
+use Rattle.std.specs.Prelude.{ℕ, List, [], length, Option, Some, None, Result, Ok, Err, unwrap_or, nat_lt, ◌==◌, if◌then◌else◌, slice_index_or}
+use Rattle.std.specs.Option.{option_map, option_map_or}
 use Rattle.lattice.specs.Surface.{first_surface}
 use Rattle.manifest_read.specs.declared.manifest.Manifest.{Manifest}
 use Rattle.manifest_read.specs.declared.fault.ManifestFault.{ManifestFault}
 use Rattle.manifest_read.specs.Manifest.{manifest_of}
-use Rattle.surface_top.specs.RunText.{run_text}
-use Rattle.surface_top.specs.Words.{first_wrong}
+use Rattle.manifest_read.specs.Canon.{canonical_text}
+use Rattle.circuit_text.specs.declared.fault.CircuitFault.{CircuitFault}
+use Rattle.circuit_text.specs.Circuits.{NetList, circuit_in}
+use Rattle.circuit_text.specs.Values.{input_count}
+use Rattle.surface_words.specs.declared.commands.Program.TheVariants.{Surface}
+use Rattle.surface_words.specs.declared.words.Words.{Words}
+use Rattle.surface_words.specs.declared.words.Words.TheVariants.{Check, Print, Run, Value}
+use Rattle.surface_words.specs.FirstWrong.{first_wrong}
+use Rattle.surface_words.specs.Reading.{reading}
+use Rattle.surface_top.specs.Checks.{check_text}
+use Rattle.surface_top.specs.RunText.{Scene, events_of, run_text}
+use Rattle.surface_top.specs.ValueText.{bits_of, value_text}
 
 pub data Answer : Type 0 where
   WrongWord : (index : ℕ) → Answer
   TooLong : Answer
-  Fault : (fault : ManifestFault) → Answer
+  BadManifest : (fault : ManifestFault) → Answer
+  BadCircuit : (fault : CircuitFault) → Answer
+  WrongInputs : (expected given : ℕ) → Answer
+  EventLimit : (limit : ℕ) (text : List ℕ) → Answer
   Text : (text : List ℕ) → Answer
 
--- the run text of a manifest
-abbrev pub run_text_of : Manifest → List ℕ
-run_text_of m = run_text m.names m.lattice m.seed m.rules m.until (first_surface m.cells)
+-- a run
 
-abbrev pub answer_by_manifest : Result Manifest ManifestFault → Answer
-answer_by_manifest (Ok m) = Text (run_text_of m)
-answer_by_manifest (Err f) = Fault f
+-- a seed and a duration that the words give stand in place of the manifest's
+abbrev pub scene_of : Option ℕ → Option ℕ → ℕ → ℕ → Manifest → Scene
+scene_of seed until samples limit m = record {
+  names = m.names;
+  network = record { lattice = m.lattice; rules = m.rules; seed = unwrap_or seed m.seed };
+  until = unwrap_or until m.until;
+  samples = samples;
+  limit = limit;
+}
 
--- the answer to accepted words: at most 67,108,864 bytes are read
-abbrev pub answer_to_bytes : List ℕ → Answer
-answer_to_bytes bytes = if nat_lt 67108864 (length bytes) then TooLong else answer_by_manifest (manifest_of bytes)
+-- the run text, which ends at the limit where the history has more events
+abbrev pub run_answer : Scene → Manifest → Answer
+run_answer s m =
+    if nat_lt s.limit (length (events_of s (first_surface m.cells))) then EventLimit s.limit (run_text s (first_surface m.cells))
+    else Text (run_text s (first_surface m.cells))
 
-abbrev pub answer_by_words : Option ℕ → List ℕ → Answer
-answer_by_words None bytes = answer_to_bytes bytes
-answer_by_words (Some index) bytes = WrongWord index
+abbrev pub by_manifest : (Manifest → Answer) → Result Manifest ManifestFault → Answer
+by_manifest f (Ok m) = f m
+by_manifest f (Err fault) = BadManifest fault
 
--- the answer of the program
-abbrev pub answer : List (List ℕ) → List ℕ → Answer
-answer words bytes = answer_by_words (first_wrong words) bytes
+-- the values of the outputs, for a bit of each input
+abbrev pub value_answer : List ℕ → NetList → Answer
+value_answer word c =
+    if length word == input_count c.nets then Text (value_text c (bits_of word)) else WrongInputs (input_count c.nets) (length word)
 
-abbrev pub known_by_words : Option ℕ → Option (List ℕ) → Option Answer
-known_by_words None bytes = option_map answer_to_bytes bytes
-known_by_words (Some index) bytes = Some (WrongWord index)
+abbrev pub by_circuit : (NetList → Answer) → Result NetList CircuitFault → Answer
+by_circuit f (Ok c) = f c
+by_circuit f (Err fault) = BadCircuit fault
 
--- the answer, where it is known: wrong words have one whatever the source holds, others where it tells its bytes
+-- the word with the inputs; no inputs where there is none
+abbrev pub inputs_in : Option ℕ → List (List ℕ) → List ℕ
+inputs_in index words = option_map_or (λ i. slice_index_or words i []) index []
+
+-- the answer to what the words say, and the words themselves
+abbrev pub answer_within : Words → List (List ℕ) → List ℕ → Answer
+answer_within Check words bytes = by_manifest (λ m. Text (check_text m)) (manifest_of bytes)
+answer_within Print words bytes = by_manifest (λ m. Text (canonical_text m)) (manifest_of bytes)
+answer_within (Run workers seed until samples limit) words bytes = by_manifest (λ m. run_answer (scene_of seed until samples limit m) m) (manifest_of bytes)
+answer_within (Value inputs) words bytes = by_circuit (value_answer (inputs_in inputs words)) (circuit_in bytes)
+
+-- at most 67,108,864 bytes are read
+abbrev pub answer_to : List (List ℕ) → Words → List ℕ → Answer
+answer_to words said bytes = if nat_lt 67108864 (length bytes) then TooLong else answer_within said words bytes
+
+-- wrong words have an answer whatever the source holds, others where it tells its bytes
+abbrev pub known_by : Option Words → List (List ℕ) → Option (List ℕ) → Option Answer
+known_by None words bytes = option_map WrongWord (first_wrong Surface words)
+known_by (Some said) words bytes = option_map (answer_to words said) bytes
+
+-- the answer, where it is known
 abbrev pub known : List (List ℕ) → Option (List ℕ) → Option Answer
-known words bytes = known_by_words (first_wrong words) bytes
+known words bytes = known_by (reading Surface words) words bytes
 
 -- the text that an answer has for the sink
 abbrev pub text_of : Answer → List ℕ
 text_of (Text text) = text
+text_of (EventLimit limit text) = text
 text_of (WrongWord index) = []
 text_of TooLong = []
-text_of (Fault fault) = []
+text_of (BadManifest fault) = []
+text_of (BadCircuit fault) = []
+text_of (WrongInputs expected given) = []

@@ -1,47 +1,84 @@
--- How a run ends, before its message is written.
-use Rattle.std.specs.Prelude.{◌≡◌, ℕ, List, [], ◌∷◌, ◌++◌, Option, Some, None, ⊤, codes}
+-- How a call ends, before its message is written.
+use Rattle.std.specs.Prelude.{◌≡◌, ℕ, List, [], Option, None, Result, Ok, Err, ⊤, IsSome}
+use Rattle.surf_outside.specs.Causes.{Rose}
 use Rattle.surf_kinds.specs.declared.status.Status.{Status}
 use Rattle.surf_kinds.specs.declared.status.Status.TheVariants as status
-use Rattle.surface_top.specs.declared.call.Ending.{Ending}
-use Rattle.surface_top.specs.declared.call.Ending.TheVariants as ending
-use Rattle.surface_top.specs.Answer.{Answer, WrongWord, TooLong, Fault, Text}
-use Rattle.surface_top.specs.Outcome.{IsRead, answer_note}
+use Rattle.surface_words.specs.declared.words.Words.{Words}
+use Rattle.manifest_read.specs.declared.manifest.Manifest.{Manifest}
+use Rattle.manifest_read.specs.declared.fault.ManifestFault.{ManifestFault}
+use Rattle.circuit_text.specs.declared.fault.CircuitFault.{CircuitFault}
+use Rattle.circuit_text.specs.Circuits.{NetList}
+use Rattle.surface_top.specs.declared.pages.Stop.{Stop}
+use Rattle.surface_top.specs.declared.pages.Stop.TheVariants as stop
+use Rattle.surface_top.specs.declared.ending.Ending.{Ending}
+use Rattle.surface_top.specs.declared.ending.Ending.TheVariants as ending
+use Rattle.surface_top.specs.Answer.{Answer, WrongWord, TooLong, BadManifest, BadCircuit, WrongInputs, EventLimit, Text}
+use Rattle.surface_top.specs.Outcome.{own_status, IsRead, HasText, OutGains}
+
+-- the answer of an ending, but for its text
+abbrev pub answer_by : Ending → Answer
+answer_by ending.Done = Text []
+answer_by (ending.WrongWord index) = WrongWord index
+answer_by ending.TooLong = TooLong
+answer_by (ending.BadManifest fault) = BadManifest fault
+answer_by (ending.BadCircuit fault) = BadCircuit fault
+answer_by (ending.WrongInputs expected given) = WrongInputs expected given
+answer_by (ending.EventLimit limit) = EventLimit limit []
+answer_by ending.ReadFault = Text []
+answer_by ending.WriteFault = Text []
+answer_by ending.Memory = Text []
 
 abbrev pub status_of : Ending → Status
-status_of ending.Done = status.Done
-status_of (ending.WrongWord index) = status.Words
-status_of ending.TooLong = status.Limit
-status_of (ending.Fault fault) = status.Faulty
 status_of ending.ReadFault = status.ReadFault
 status_of ending.WriteFault = status.WriteFault
 status_of ending.Memory = status.Memory
+status_of e = own_status (answer_by e)
 
 -- the ending is the answer's; a fault of the outside and want of memory may come in its place
 abbrev pub IsEndingOf : Ending → Answer → Type 0
 IsEndingOf ending.Done a = (text : List ℕ) × (a ≡ Text text)
 IsEndingOf (ending.WrongWord index) a = a ≡ WrongWord index
 IsEndingOf ending.TooLong a = a ≡ TooLong
-IsEndingOf (ending.Fault fault) a = a ≡ Fault fault
+IsEndingOf (ending.BadManifest fault) a = a ≡ BadManifest fault
+IsEndingOf (ending.BadCircuit fault) a = a ≡ BadCircuit fault
+IsEndingOf (ending.WrongInputs expected given) a = a ≡ WrongInputs expected given
+IsEndingOf (ending.EventLimit limit) a = (text : List ℕ) × (a ≡ EventLimit limit text)
 IsEndingOf ending.ReadFault a = IsRead a
-IsEndingOf ending.WriteFault a = (text : List ℕ) × (a ≡ Text text)
+IsEndingOf ending.WriteFault a = HasText a
 IsEndingOf ending.Memory a = ⊤
 
--- wrong words are answered, unless memory is wanting; right ones never
-abbrev pub IsWordsAnswer : Ending → Option ℕ → Type 0
-IsWordsAnswer (ending.WrongWord index) wrong = wrong ≡ Some index
-IsWordsAnswer ending.Memory wrong = ⊤
-IsWordsAnswer ending.Done wrong = wrong ≡ None
-IsWordsAnswer ending.TooLong wrong = wrong ≡ None
-IsWordsAnswer (ending.Fault fault) wrong = wrong ≡ None
-IsWordsAnswer ending.ReadFault wrong = wrong ≡ None
-IsWordsAnswer ending.WriteFault wrong = wrong ≡ None
+-- an ending that isn't a fault of the source, and what the sink gained of the answer
+pub record Answered (a : Answer) (e : Ending) (old new : Option (List ℕ)) (faults now : ℕ) : Type 0 where
+  pub is_of : IsEndingOf e a
+  pub gains : OutGains (status_of e) a old new
+  pub write : e ≡ ending.WriteFault → Rose faults now
+  pub read : e ≡ ending.ReadFault → ⊥
 
--- the message of an ending
-unfoldable pub ending_message : Ending → List ℕ
-ending_message ending.Done = []
-ending_message (ending.WrongWord index) = answer_note (WrongWord index)
-ending_message ending.TooLong = answer_note TooLong
-ending_message (ending.Fault fault) = answer_note (Fault fault)
-ending_message ending.ReadFault = codes "read fault" ++ 10 ∷ []
-ending_message ending.WriteFault = codes "write fault" ++ 10 ∷ []
-ending_message ending.Memory = codes "memory" ++ 10 ∷ []
+-- wrong words are answered; right ones never
+abbrev pub IsWordsAnswer : Ending → Option Words → Type 0
+IsWordsAnswer (ending.WrongWord index) said = said ≡ None
+IsWordsAnswer e said = IsSome said
+
+-- the ending that stands for a text without a manifest
+abbrev pub IsNoManifest : Ending → Result Manifest ManifestFault → Type 0
+IsNoManifest (ending.BadManifest fault) read = read ≡ Err fault
+IsNoManifest ending.Memory read = ⊤
+IsNoManifest e read = ⊥
+
+-- the ending that stands for a text without a circuit
+abbrev pub IsNoCircuit : Ending → Result NetList CircuitFault → Type 0
+IsNoCircuit (ending.BadCircuit fault) read = read ≡ Err fault
+IsNoCircuit ending.Memory read = ⊤
+IsNoCircuit e read = ⊥
+
+-- the ending doesn't name a word
+abbrev pub IsAccepted : Ending → Type 0
+IsAccepted (ending.WrongWord index) = ⊥
+IsAccepted e = ⊤
+
+-- how the call ends after a run with this limit
+abbrev pub run_ending : {T : Type 0} → ℕ → Result T Stop → Ending
+run_ending limit (Ok x) = ending.Done
+run_ending limit (Err stop.Limit) = ending.EventLimit limit
+run_ending limit (Err stop.Write) = ending.WriteFault
+run_ending limit (Err stop.Memory) = ending.Memory

@@ -1,7 +1,10 @@
-pub mod Pages
 pub mod RunText
-pub mod Words
+pub mod Checks
+pub mod ValueText
 pub mod Answer
 pub mod Outcome
 pub mod Ending
-pub mod Starts
+pub mod Pages
+pub mod Ticks
+pub mod Writing
+pub mod Stops

@@ -1,85 +1,68 @@
--- The text of a run: its events, the surface at the end, and the end.
-use Rattle.std.specs.Prelude.{ℕ, zero, suc, ◌+◌, ◌*◌, ◌/◌, ◌%◌, List, [], ◌∷◌, ◌++◌, length, count_by, slice_get, decimal, codes, ◌==◌, if◌then◌else◌, slice_index_or}
-use Rattle.std.specs.List.{flat_map}
-use Rattle.std.specs.Option.{option_map_or}
+-- The text of a run: its events in the order of the history, the surfaces of the sampling ticks between them, and the end.
+use Rattle.std.specs.Prelude.{ℕ, ◌+◌, ◌*◌, ◌/◌, List, [], ◌∷◌, ◌++◌, map, nat_lt, ◌==◌, if◌then◌else◌}
+use Rattle.std.specs.List.{flat_map, range_with_len}
 use Rattle.surf_kinds.specs.declared.event.Event.{Event}
-use Rattle.surf_kinds.specs.declared.rule.Rule.{Rule}
 use Rattle.surf_kinds.specs.declared.site.SiteState.{SiteState}
-use Rattle.lattice.specs.Shape.{Shape}
-use Rattle.lattice.specs.Surface.{after_all}
+use Rattle.lattice.specs.Surface.{after}
+use Rattle.plan.specs.Network.{Network}
 use Rattle.plan.specs.History.{history}
+use Rattle.trace_text.specs.Lines.{event_text, surface_text, end_text, limit_text}
 
--- the direction of a place: its site alone, or the pair with the neighbour there
-abbrev pub direction : ℕ → List ℕ
-direction d = if d == 0 then codes "self" else (if d == 1 then codes "east" else (if d == 2 then codes "south" else codes "southwest"))
+-- what is run and told: the names of the species, the rules on a lattice, the duration in ticks, how many surfaces are
+-- shown, and how many events at most
+pub record Scene : Type 0 where
+  pub names : List (List ℕ)
+  pub network : Network
+  pub until : ℕ
+  pub samples : ℕ
+  pub limit : ℕ
 
--- event <tick> <row> <col> <dir> <rule> <way>
-unfoldable pub event_front : ℕ → ℕ → ℕ → List ℕ → List ℕ
-event_front tick row col dir = codes "event " ++ decimal tick ++ codes " " ++ decimal row ++ codes " " ++ decimal col ++ codes " " ++ dir
+-- the ticks at which a surface is shown: the duration in so many equal parts, and the last is its end
+abbrev pub sampling_ticks : ℕ → ℕ → List ℕ
+sampling_ticks until samples = map (λ i. i * until / samples) (range_with_len 1 samples)
 
-unfoldable pub event_back : ℕ → ℕ → List ℕ
-event_back rule way = codes " " ++ decimal rule ++ codes " " ++ decimal way ++ 10 ∷ []
+-- the ticks of a rising list before a time, and those from it on
 
--- with the row and the column of the place's first site
-abbrev pub event_text : ℕ → Event → List ℕ
-event_text cols e =
-    event_front e.time (e.place.0 / 8 / cols) (e.place.0 / 8 % cols) (direction (e.place.0 % 8)) ++ event_back (e.channel / 2) (e.channel % 2)
+abbrev pub ticks_before : ℕ → List ℕ → List ℕ
+ticks_before time [] = []
+ticks_before time (tick ∷ ticks) = if nat_lt tick time then tick ∷ ticks_before time ticks else []
 
-abbrev pub events_text : ℕ → List Event → List ℕ
-events_text cols es = flat_map (event_text cols) es
+abbrev pub ticks_from : ℕ → List ℕ → List ℕ
+ticks_from time [] = []
+ticks_from time (tick ∷ ticks) = if nat_lt tick time then ticks_from time ticks else tick ∷ ticks
 
--- surface <tick> <events>, with the number of events so far
-unfoldable pub surface_line : ℕ → ℕ → List ℕ
-surface_line tick events = codes "surface " ++ decimal tick ++ codes " " ++ decimal events ++ 10 ∷ []
+-- how far a run has come: what stands at the sites, how many events there were, and the sampling ticks that are left
+pub record Reached : Type 0 where
+  pub sites : List SiteState
+  pub events : ℕ
+  pub ticks : List ℕ
 
--- the name of the species at a site
-abbrev pub name_at : List (List ℕ) → List SiteState → ℕ → List ℕ
-name_at names sites i = option_map_or (λ s. slice_index_or names s.species.0 []) (slice_get sites i) []
+-- the surface at each of these ticks
+abbrev pub shown : Scene → Reached → List ℕ → List ℕ
+shown s r ticks = flat_map (λ tick. surface_text s.names s.network.lattice r.sites tick r.events) ticks
 
--- a name in a row, with a space before it unless it is the first
-abbrev pub cell_text : ℕ → List ℕ → List ℕ
-cell_text zero name = name
-cell_text (suc col) name = 32 ∷ name
+-- after one more event
+abbrev pub reached : Scene → Reached → Event → Reached
+reached s r e = record {
+  sites = after s.network.lattice s.network.rules r.sites e;
+  events = r.events + 1;
+  ticks = ticks_from e.time r.ticks;
+}
 
--- the names of the first n sites of the row that begins at a site, with one space between
-unfoldable pub cells_text : List (List ℕ) → List SiteState → ℕ → ℕ → List ℕ
-cells_text names sites from zero = []
-cells_text names sites from (suc n) = cells_text names sites from n ++ cell_text n (name_at names sites (from + n))
+-- The text of the events that follow. Before each stand the surfaces of the sampling ticks before its time; an event
+-- that is one more than the limit isn't told, and the text ends there.
+unfoldable pub text_from : List Event → Scene → Reached → List ℕ
+text_from [] s r = shown s r r.ticks ++ end_text s.until r.events
+text_from (e ∷ es) s r =
+    shown s r (ticks_before e.time r.ticks)
+    ++ (if r.events == s.limit then limit_text s.limit else event_text s.network.lattice.cols e ++ text_from es s (reached s r e))
 
-abbrev pub row_text : List (List ℕ) → ℕ → List SiteState → ℕ → List ℕ
-row_text names cols sites row = cells_text names sites (row * cols) cols ++ 10 ∷ []
+abbrev pub start : Scene → List SiteState → Reached
+start s sites = record { sites = sites; events = 0; ticks = sampling_ticks s.until s.samples }
 
--- the first n rows
-unfoldable pub rows_text : List (List ℕ) → ℕ → List SiteState → ℕ → List ℕ
-rows_text names cols sites zero = []
-rows_text names cols sites (suc n) = rows_text names cols sites n ++ row_text names cols sites n
+abbrev pub events_of : Scene → List SiteState → List Event
+events_of s sites = history s.network.lattice s.network.seed s.network.rules s.until sites
 
--- how many sites have the species
-abbrev pub count_of : List SiteState → ℕ → ℕ
-count_of sites species = count_by (λ s. s.species.0 == species) sites
-
-unfoldable pub count_text : List ℕ → ℕ → List ℕ
-count_text name count = codes " " ++ name ++ codes ":" ++ decimal count
-
--- the counts of the first n species
-unfoldable pub counts_text : List (List ℕ) → List SiteState → ℕ → List ℕ
-counts_text names sites zero = []
-counts_text names sites (suc n) = counts_text names sites n ++ count_text (slice_index_or names n []) (count_of sites n)
-
--- the rows of a surface, and the counts of all species
-abbrev pub body_text : List (List ℕ) → Shape → List SiteState → List ℕ
-body_text names l sites = rows_text names l.cols sites l.rows ++ codes "counts" ++ counts_text names sites (length names) ++ 10 ∷ []
-
--- end <until> <events>
-unfoldable pub end_text : ℕ → ℕ → List ℕ
-end_text until events = codes "end " ++ decimal until ++ codes " " ++ decimal events ++ 10 ∷ []
-
--- what follows the events: the surface that they leave, and the end
-abbrev pub close_text : List (List ℕ) → Shape → ℕ → List SiteState → ℕ → List ℕ
-close_text names l until sites events = surface_line until events ++ body_text names l sites ++ end_text until events
-
--- the run text of rules on a first surface, up to a duration in ticks
-unfoldable pub run_text : List (List ℕ) → Shape → ℕ → List Rule → ℕ → List SiteState → List ℕ
-run_text names l seed rules until sites =
-    let events = history l seed rules until sites in
-    events_text l.cols events ++ close_text names l until (after_all l rules sites events) (length events)
+-- the run text on a first surface
+abbrev pub run_text : Scene → List SiteState → List ℕ
+run_text s sites = text_from (events_of s sites) s (start s sites)

@@ -1,21 +1,28 @@
-//! The top call of the program `surface`: from words and bytes to a text, a message and a status.
+//! The program `surface` as a library: from words and a source to what is written.
 //!
-//! [`surface_main`] reads the words, then the source, then the manifest, runs it and writes its run text. It promises
-//! that what it writes is the answer that `specs/Answer.antt` defines: the events, the surface and the end that
-//! rescanning every place, one event at a time, gives; or it names the first wrong word or line, a limit, a fault
-//! that the outside had, or want of memory. Below it, `run` carries a manifest to its text, and `text` and `pages`
-//! write that text in pieces. It stands on `manifest_read`, `plan` and `surf_outside`.
+//! [`surface_main`] does what the words say. What it writes is defined in `specs/Answer.antt`: of a manifest its
+//! sizes, its canonical text or its run text (`specs/RunText.antt`), of a circuit the values of its outputs. A run fires
+//! the next event of the surface, one after the other, and hands the events to the one writer of run texts.
+//!
+//! The crate stands on the readers of words, manifests and circuits, on the engine, and on the writers of texts.
 #![tactic(auto)]
 
+mod answers;
+mod buffer;
 mod call;
+mod ending;
 mod main_call;
+mod message;
 mod pages;
 mod run;
-mod text;
-mod words;
+mod running;
+mod ticks;
+mod writer;
 
 pub use main_call::surface_main;
-pub use surf_kinds::Status;
+pub use surface_words::{Program, Words};
 
+#[cfg(test)]
+mod call_tests;
 #[cfg(test)]
 mod tests;

@@ -1,49 +1,47 @@
 //! Text that goes out in pieces of many lines.
 
-ghost use Rattle.std.specs.Prelude.{◌≡◌, [], OnOk};
+ghost use Rattle.std.specs.Prelude.{◌≡◌, [], IfErr, OnOk};
 ghost use Rattle.surface_top.specs.Pages.{page, Puts};
 
+use crate::buffer::Buffer;
 use surf_outside::{Failed, Sink, put_all};
 
-/// Why a text was not written to its end.
+/// Why a run did not tell all of its events.
 #[derive(Clone, Copy, Debug, PartialEq, Eq)]
-pub(crate) enum WriteError {
+pub(crate) enum Stop {
+    /// It has more events than the limit.
+    Limit,
     /// The sink had a fault.
     Write,
+    /// Memory ran out.
     Memory,
 }
 
-/// How many bytes pend before they go out together.
-const PIECE: usize = 32_768;
+/// How many bytes wait before they go out together.
+const MUCH: usize = 32_768;
 
-/// Sends what pends.
-pub(crate) fn flush<O: Sink>(out: &mut O, pending: &mut Vec<u8>) -> Result<(), WriteError>
-    ensures puts { Puts (page (O.held out.old) (O.faults out.old) pending.old.items) (page (O.held out.new) (O.faults out.new) pending.new.items) [] result }
-    ensures none { OnOk result (pending.new.items ≡ []) }
+/// Sends what waits.
+pub(crate) fn flush<O: Sink>(out: &mut O, buffer: &mut Buffer) -> Result<(), Stop>
+    ensures puts { Puts (page (O.held out.old) (O.faults out.old) buffer.old) (page (O.held out.new) (O.faults out.new) buffer.new) [] result }
+    ensures none { OnOk result (buffer.new.bytes ≡ []) }
+    ensures fault { IfErr result (λ stop. stop ≡ Stop.Write) }
 {
-    match put_all(out, pending.as_slice()) {
+    match put_all(out, buffer.bytes()) {
         Ok(()) => {
-            pending.clear();
+            buffer.clear();
             Ok(())
         }
-        Err(Failed) => Err(WriteError::Write),
+        Err(Failed) => Err(Stop::Write),
     }
 }
 
-/// Writes a piece of text, and sends what pends where that is much.
-pub(crate) fn put<O: Sink>(
-    out: &mut O,
-    pending: &mut Vec<u8>,
-    piece: &str,
-) -> Result<(), WriteError>
-    ensures { Puts (page (O.held out.old) (O.faults out.old) pending.old.items) (page (O.held out.new) (O.faults out.new) pending.new.items) piece.now result }
+/// Sends what waits, where that is much.
+pub(crate) fn flush_much<O: Sink>(out: &mut O, buffer: &mut Buffer) -> Result<(), Stop>
+    ensures puts { Puts (page (O.held out.old) (O.faults out.old) buffer.old) (page (O.held out.new) (O.faults out.new) buffer.new) [] result }
+    ensures fault { IfErr result (λ stop. stop ≡ Stop.Write) }
 {
-    match pending.extend_from_slice(piece.as_bytes()) {
-        Ok(()) => {}
-        Err(_) => return Err(WriteError::Memory),
-    }
-    if pending.len() < PIECE {
+    if buffer.bytes().len() < MUCH {
         return Ok(());
     }
-    flush(out, pending)
+    flush(out, buffer)
 }

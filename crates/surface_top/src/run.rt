@@ -1,141 +1,113 @@
-//! A run from its manifest to its text.
+//! A run of a plan on its first surface, with its text.
 
-ghost use Rattle.std.specs.Prelude.{◌≡◌, ◌≤◌, ◌^◌, length, [], OnOk, OnErr, IfOk, IsErrOf};
-ghost use Rattle.std.specs.Io.KnownBytes.{Appends};
+ghost use Rattle.std.specs.Prelude.{◌≡◌, ◌^◌, ◌≤◌, List, length, [], None, All, OnOk, IsErrOf};
+ghost use Rattle.surf_kinds.specs.declared.site.SpeciesId.{SpeciesId};
 ghost use Rattle.surf_outside.specs.Causes.{Rose};
 ghost use Rattle.surf_outside.specs.Known.{AppendsPrefix};
-ghost use Rattle.lattice.specs.Surface.{first_surface, after_all};
-ghost use Rattle.plan.specs.History.{history};
-ghost use Rattle.manifest_read.specs.Sound.{IsSound};
-ghost use Rattle.surface_top.specs.Answer.{run_text_of};
-ghost use Rattle.surface_top.specs.Pages.{page, Puts};
-ghost use Rattle.surface_top.specs.RunText.{events_text, run_text};
-ghost use Rattle.surface_top.specs.Starts.{IsStart};
+ghost use Rattle.lattice.specs.Surface.{first_surface};
+ghost use Rattle.one_engine.specs.State.{LeavesWithin};
+ghost use Rattle.surface_top.specs.Pages.{page};
+ghost use Rattle.surface_top.specs.RunText.{run_text};
+ghost use Rattle.surface_top.specs.Stops.{IsLimited, RunGains};
+ghost use Rattle.surface_top.specs.Writing.{scene, reached_of, fired_all, next_due, AreNext, IsReady, Ends};
 
-use crate::pages::{WriteError, flush, put};
-use crate::text::{event_line, put_close};
-use manifest_read::Manifest;
+pub(crate) use crate::pages::Stop;
+pub(crate) use crate::writer::Span;
+use crate::writer::{Task, Writer};
+use one_engine::Engine;
 use plan::Plan;
-use plan::rescan::{due, fire};
 use species::Names;
 use std::alloc::{AllocError, Global};
-use surf_kinds::{NoMemory, SiteState, SpeciesId};
+use surf_kinds::{Event, NoMemory};
 use surf_outside::Sink;
+use surface_state::Surface;
 
-/// The first surface: each site with its species, never rewritten.
-fn first_sites(alloc: Global, cells: &[SpeciesId]) -> Result<Vec<SiteState>, AllocError>
-    ensures { IfOk result (λ sites. sites.items ≡ first_surface cells.now) }
+/// How many events are fired before they are told.
+const BATCH: usize = 4_096;
+
+/// Fires the next events, `BATCH` of them or all that are due, into a list that has room for so many.
+fn fire_batch(engine: &mut Engine, until: u64, batch: &mut Vec<Event>) -> Result<(), AllocError>
+    requires { until ≤ 10 ^ 15 }
+    ensures next { OnOk result (AreNext engine.old.network until engine.old.surface.sites batch.new.items) }
+    ensures fired { OnOk result (engine.new ≡ fired_all engine.old batch.new.items) }
+    ensures last { OnOk result (batch.new.items ≡ [] → next_due engine.old.network until engine.old.surface.sites ≡ None) }
 {
-    cells
-        .iter()
-        .map(|cell| SiteState {
-            species: *cell,
-            version: 0,
-            last: 0,
-        })
-        .collect(alloc)
+    batch.clear();
+    for _ in 0..BATCH {
+        let Some(event) = engine.fire(until) else {
+            return Ok(());
+        };
+        batch.push(event)?;
+    }
+    Ok(())
 }
 
-/// Fires each event up to and with the tick `until`, writes its line, and counts them.
-fn run_events<O: Sink>(
-    alloc: Global,
-    plan: &Plan,
-    until: u64,
-    sites: &mut [SiteState],
+/// Fires all events, and writes them.
+fn run_engine<O: Sink>(
+    names: &Names,
+    engine: &mut Engine,
+    writer: &mut Writer,
+    batch: &mut Vec<Event>,
+    span: Span,
     out: &mut O,
-    pending: &mut Vec<u8>,
-) -> Result<u128, WriteError>
-    requires start { IsStart plan.now.lattice sites.old }
-    requires duration { until ≤ 10 ^ 15 }
-    ensures puts { Puts (page (O.held out.old) (O.faults out.old) pending.old.items) (page (O.held out.new) (O.faults out.new) pending.new.items) (events_text plan.now.lattice.cols (history plan.now.lattice plan.now.seed plan.now.rules until sites.old)) result }
-    ensures count { IfOk result (λ events. events ≡ length (history plan.now.lattice plan.now.seed plan.now.rules until sites.old)) }
-    ensures surface { OnOk result (sites.new ≡ after_all plan.now.lattice plan.now.rules sites.old (history plan.now.lattice plan.now.seed plan.now.rules until sites.old)) }
+) -> Result<(), Stop>
+    requires ready { IsReady (scene names.now engine.old.network span) writer.old }
+    requires same { engine.old.surface.sites ≡ writer.old.surface.sites }
+    ensures { Ends (scene names.now engine.old.network span) (reached_of writer.old) (page (O.held out.old) (O.faults out.old) writer.old.buffer) (page (O.held out.new) (O.faults out.new) writer.new.buffer) result }
 {
-    let cols = plan.lattice().cols();
-    let mut events: u128 = 0;
-    while let Some(event) = due(plan, until, sites) {
-        fire(plan, sites, event);
-        events += 1;
-        let line = match event_line(alloc, cols, event) {
-            Ok(line) => line,
-            Err(_) => return Err(WriteError::Memory),
-        };
-        match put(out, pending, line.as_str()) {
+    loop {
+        match fire_batch(engine, span.until, batch) {
             Ok(()) => {}
-            Err(error) => return Err(error),
+            Err(_) => return Err(Stop::Memory),
+        }
+        let task = Task {
+            names,
+            plan: engine.plan(),
+            span,
+        };
+        if batch.is_empty() {
+            return writer.end(&task, out);
+        }
+        match writer.take(&task, out, batch.as_slice()) {
+            Ok(()) => {}
+            Err(stop) => return Err(stop),
         }
     }
-    Ok(events)
 }
 
-/// Runs a plan on a first surface, and writes its run text.
-fn run_plan<O: Sink>(
-    alloc: Global,
-    names: &Names,
-    plan: &Plan,
-    until: u64,
-    sites: &mut [SiteState],
-    out: &mut O,
-    pending: &mut Vec<u8>,
-) -> Result<(), WriteError>
-    requires start { IsStart plan.now.lattice sites.old }
-    requires duration { until ≤ 10 ^ 15 }
-    ensures puts { Puts (page (O.held out.old) (O.faults out.old) pending.old.items) (page (O.held out.new) (O.faults out.new) pending.new.items) (run_text names.now plan.now.lattice plan.now.seed plan.now.rules until sites.old) result }
-    ensures none { OnOk result (pending.new.items ≡ []) }
-{
-    let events = match run_events(alloc, plan, until, sites, out, pending) {
-        Ok(events) => events,
-        Err(error) => return Err(error),
-    };
-    match put_close(
-        alloc,
-        out,
-        pending,
-        names,
-        plan.lattice(),
-        until,
-        sites,
-        events,
-    ) {
-        Ok(()) => {}
-        Err(error) => return Err(error),
-    }
-    flush(out, pending)
-}
-
-/// Runs a manifest, and writes its run text.
+/// Runs a plan on a first surface, and writes its run text. Where it has more events than the limit, the text ends
+/// there; after a fault of the sink, and where memory runs out, a prefix of the text was written.
 pub(crate) fn write_run<O: Sink>(
     alloc: Global,
-    manifest: Manifest,
+    names: &Names,
+    plan: Plan,
+    surface: Surface,
+    span: Span,
     out: &mut O,
-) -> Result<(), WriteError>
-    requires { IsSound manifest }
-    ensures text { OnOk result (Appends (O.held out.old) (O.held out.new) (run_text_of manifest)) }
-    ensures prefix { OnErr result (AppendsPrefix (O.held out.old) (O.held out.new) (run_text_of manifest)) }
+) -> Result<(), Stop>
+    requires lattice { surface.lattice ≡ plan.lattice }
+    requires kinds { surface.kinds ≡ length names.now }
+    requires species { All (LeavesWithin surface.kinds) plan.rules }
+    requires first { (cells : List SpeciesId) × (surface.sites ≡ first_surface cells) }
+    requires duration { span.until ≤ 10 ^ 15 }
+    requires samples { span.samples ≤ 10000 }
+    requires limit { span.limit ≤ 10000000 }
+    ensures limited { IsLimited result (scene names.now plan span) surface.sites }
+    ensures text { RunGains result (run_text (scene names.now plan span) surface.sites) (O.held out.old) (O.held out.new) }
+    ensures prefix { AppendsPrefix (O.held out.old) (O.held out.new) (run_text (scene names.now plan span) surface.sites) }
     ensures later { O.faults out.old ≤ O.faults out.new }
-    ensures write { IsErrOf result WriteError.Write → Rose (O.faults out.old) (O.faults out.new) }
+    ensures write { IsErrOf result Stop.Write → Rose (O.faults out.old) (O.faults out.new) }
 {
-    let plan = match Plan::new(
-        alloc,
-        manifest.rules.as_slice(),
-        manifest.lattice,
-        manifest.seed,
-    ) {
-        Ok(plan) => plan,
-        Err(NoMemory) => return Err(WriteError::Memory),
+    let Ok(copy) = surface.copy() else {
+        return Err(Stop::Memory);
     };
-    let mut sites = match first_sites(alloc, manifest.cells.as_slice()) {
-        Ok(sites) => sites,
-        Err(_) => return Err(WriteError::Memory),
+    let mut engine = match Engine::new(alloc, plan, surface) {
+        Ok(engine) => engine,
+        Err(NoMemory) => return Err(Stop::Memory),
     };
-    let mut pending = Vec::new(alloc);
-    run_plan(
-        alloc,
-        &manifest.names,
-        &plan,
-        manifest.until,
-        sites.as_mut_slice(),
-        out,
-        &mut pending,
-    )
+    let Ok(mut batch) = Vec::with_capacity(alloc, BATCH) else {
+        return Err(Stop::Memory);
+    };
+    let mut writer = Writer::new(alloc, copy, span);
+    run_engine(names, &mut engine, &mut writer, &mut batch, span, out)
 }

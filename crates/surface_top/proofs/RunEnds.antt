@@ -1,0 +1,58 @@
+-- How a call ends after a run.
+use Rattle.std.proofs.Common.{rules, ◌≡◌, ℕ, Bool, true, false, cond, List, length, Option, refl, ap, ◌∙◌, subst, arith}
+use Rattle.std.specs.Prelude.{Result, Ok, Err, nat_lt, unwrap_or, IsErrOf}
+use Rattle.std.proofs.lemmas.Bool.Decides.{nat_tests}
+use Rattle.std.specs.Io.KnownBytes.{Appends}
+use Rattle.surf_outside.specs.Causes.{Rose}
+use Rattle.surf_outside.specs.Known.{AppendsPrefix}
+use Rattle.surf_kinds.specs.declared.site.SiteState.{SiteState}
+use Rattle.surface_top.specs.declared.pages.Stop.{Stop}
+use Rattle.surface_top.specs.declared.pages.Stop.TheVariants as stop
+use Rattle.surface_top.specs.declared.ending.Ending.TheVariants as ending
+use Rattle.manifest_read.specs.declared.manifest.Manifest.{Manifest}
+use Rattle.plan.specs.Network.{Network}
+use Rattle.surface_top.specs.Answer.{Answer, Text, EventLimit, scene_of}
+use Rattle.surface_top.specs.Ending.{Answered, run_ending}
+use Rattle.surface_top.specs.RunText.{Scene, events_of, run_text}
+use Rattle.surface_top.specs.Stops.{IsLimited, RunGains}
+use Rattle.surface_top.specs.Writing.{scene}
+
+abbrev by_limit : Bool → ℕ → List ℕ → Answer
+by_limit over limit text = cond over (EventLimit limit text) (Text text)
+
+ends_whole : (over : Bool) (limit : ℕ) (text : List ℕ) (old new : Option (List ℕ)) (f n : ℕ) → over ≡ false → Appends old new text → Answered (by_limit over limit text) ending.Done old new f n
+ends_whole false limit text old new f n h g = record { is_of = (text, refl); gains = g; write = search rules; read = search rules }
+ends_whole true limit text old new f n h g = search rules
+
+ends_limited : (over : Bool) (limit : ℕ) (text : List ℕ) (old new : Option (List ℕ)) (f n : ℕ) → over ≡ true → Appends old new text → Answered (by_limit over limit text) (ending.EventLimit limit) old new f n
+ends_limited true limit text old new f n h g = record { is_of = (text, refl); gains = g; write = search rules; read = search rules }
+ends_limited false limit text old new f n h g = search rules
+
+ends_stopped : (over : Bool) (limit : ℕ) (text : List ℕ) (old new : Option (List ℕ)) (f n : ℕ) → AppendsPrefix old new text → Rose f n → Answered (by_limit over limit text) ending.WriteFault old new f n
+ends_stopped false limit text old new f n g w = record { is_of = tt; gains = g; write = λ _. w; read = search rules }
+ends_stopped true limit text old new f n g w = record { is_of = tt; gains = g; write = λ _. w; read = search rules }
+
+ends_wanting : (over : Bool) (limit : ℕ) (text : List ℕ) (old new : Option (List ℕ)) (f n : ℕ) → AppendsPrefix old new text → Answered (by_limit over limit text) ending.Memory old new f n
+ends_wanting false limit text old new f n g = record { is_of = tt; gains = g; write = search rules; read = search rules }
+ends_wanting true limit text old new f n g = record { is_of = tt; gains = g; write = search rules; read = search rules }
+
+-- a run ends as its answer wants
+pub run_ends : {T : Type 0} (r : Result T Stop) (s : Scene) (sites : List SiteState) (old new : Option (List ℕ)) (f n : ℕ) → IsLimited r s sites → RunGains r (run_text s sites) old new → (IsErrOf r stop.Write → Rose f n) → Answered (by_limit (nat_lt s.limit (length (events_of s sites))) s.limit (run_text s sites)) (run_ending s.limit r) old new f n
+run_ends (Ok x) s sites old new f n h g w = ends_whole _ s.limit (run_text s sites) old new f n (grind (arith, nat_tests)) g
+run_ends (Err stop.Limit) s sites old new f n h g w = ends_limited _ s.limit (run_text s sites) old new f n (grind (arith, nat_tests)) g
+run_ends (Err stop.Write) s sites old new f n h g w = ends_stopped _ s.limit (run_text s sites) old new f n g (w refl)
+run_ends (Err stop.Memory) s sites old new f n h g w = ends_wanting _ s.limit (run_text s sites) old new f n g
+
+-- the same where the scene and the surface are known by other names
+pub run_answers : {T : Type 0} (r : Result T Stop) (s t : Scene) (sites first : List SiteState) (old new : Option (List ℕ)) (f n : ℕ) → s ≡ t → sites ≡ first → IsLimited r s sites → RunGains r (run_text s sites) old new → (IsErrOf r stop.Write → Rose f n) → Answered (by_limit (nat_lt t.limit (length (events_of t first))) t.limit (run_text t first)) (run_ending t.limit r) old new f n
+run_answers r s t sites first old new f n e d h g w =
+    subst (λ x. Answered (by_limit (nat_lt t.limit (length (events_of t x))) t.limit (run_text t x)) (run_ending t.limit r) old new f n) d
+    (subst (λ x. Answered (by_limit (nat_lt x.limit (length (events_of x sites))) x.limit (run_text x sites)) (run_ending x.limit r) old new f n) e
+    (run_ends r s sites old new f n h g w))
+
+-- the scene that a manifest with these words makes
+pub scene_is : (m : Manifest) (plan : Network) (seed until : Option ℕ) (samples limit s u : ℕ) → plan ≡ record { lattice = m.lattice; rules = m.rules; seed = s } → s ≡ unwrap_or seed m.seed → u ≡ unwrap_or until m.until → scene m.names plan (record { until = u; samples = samples; limit = limit }) ≡ scene_of seed until samples limit m
+scene_is m plan seed until samples limit s u p is iu =
+    ap (λ x. scene m.names x (record { until = u; samples = samples; limit = limit })) p
+    ∙ (ap (λ x. scene m.names (record { lattice = m.lattice; rules = m.rules; seed = x }) (record { until = u; samples = samples; limit = limit })) is
+    ∙ ap (λ x. scene m.names (record { lattice = m.lattice; rules = m.rules; seed = unwrap_or seed m.seed }) (record { until = x; samples = samples; limit = limit })) iu)

@@ -1,0 +1,11 @@
+use Rattle.std.proofs.Common.{◌≡◌, length}
+use Rattle.surface_top.specs.Writing.{fired_all, AreNext}
+use Rattle.surface_top.proofs.run.fire_batch.Given as goal
+
+abbrev pub invariant-loop : goal.invariant-loop
+invariant-loop l =
+    record {
+      next : AreNext l.fn.engine.network l.until l.fn.engine.surface.sites l.batch.items;
+      fired : l.engine ≡ fired_all l.fn.engine l.batch.items;
+      long : length l.batch.items ≡ l.counter;
+    }

@@ -1,0 +1,18 @@
+use Rattle.std.proofs.Common.{◌≡◌}
+use Rattle.plan.specs.History.{room}
+use Rattle.surface_top.specs.Pages.{page}
+use Rattle.surface_top.specs.Writing.{scene, reached_of, IsReady, Told}
+use Rattle.surface_top.proofs.run.run_engine.Given as goal
+
+abbrev pub invariant-loop-engine : goal.invariant-loop-engine
+invariant-loop-engine g l =
+    record {
+      network : l.engine.network ≡ l.fn.engine.network;
+      same : l.engine.surface.sites ≡ l.writer.surface.sites;
+      ready : IsReady (scene l.names l.fn.engine.network l.span) l.writer;
+      told : Told (scene l.names l.fn.engine.network l.span) (reached_of l.fn.writer) (reached_of l.writer)
+          (page (g.O.Sink.held l.fn.out) (g.O.Sink.faults l.fn.out) l.fn.writer.buffer) (page (g.O.Sink.held l.out) (g.O.Sink.faults l.out) l.writer.buffer);
+    }
+
+abbrev pub decreases-loop-engine : goal.decreases-loop-engine
+decreases-loop-engine g l = room l.span.until l.engine.surface.sites

@@ -1,0 +1,22 @@
+-- What a run has written when it ends or stops.
+use Rattle.std.specs.Prelude.{ℕ, ◌<◌, ◌≤◌, List, length, Option, Result, Ok, Err}
+use Rattle.std.specs.Io.KnownBytes.{Appends}
+use Rattle.surf_kinds.specs.declared.site.SiteState.{SiteState}
+use Rattle.surf_outside.specs.Known.{AppendsPrefix}
+use Rattle.surface_top.specs.declared.pages.Stop.{Stop}
+use Rattle.surface_top.specs.declared.pages.Stop.TheVariants as stops
+use Rattle.surface_top.specs.RunText.{Scene, events_of}
+
+-- a run is told to its end only where it has at most as many events as the limit, and is limited only where it has more
+abbrev pub IsLimited : {T : Type 0} → Result T Stop → Scene → List SiteState → Type 0
+IsLimited (Ok x) s sites = length (events_of s sites) ≤ s.limit
+IsLimited (Err stops.Limit) s sites = s.limit < length (events_of s sites)
+IsLimited (Err stops.Write) s sites = Unit {0}
+IsLimited (Err stops.Memory) s sites = Unit {0}
+
+-- the sink gained the whole text, unless a write or memory failed
+abbrev pub RunGains : {T : Type 0} → Result T Stop → List ℕ → Option (List ℕ) → Option (List ℕ) → Type 0
+RunGains (Ok x) text old new = Appends old new text
+RunGains (Err stops.Limit) text old new = Appends old new text
+RunGains (Err stops.Write) text old new = AppendsPrefix old new text
+RunGains (Err stops.Memory) text old new = AppendsPrefix old new text

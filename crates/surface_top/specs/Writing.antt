@@ -1,0 +1,94 @@
+-- How far a writer has come in the text of a run, and what it has told when it stops.
+use Rattle.std.specs.Prelude.{◌≡◌, ℕ, ◌+◌, ◌^◌, ◌<◌, ◌≤◌, List, [], ◌∷◌, ◌++◌, length, All, Option, Some, Result, Ok, Err}
+use Rattle.surf_kinds.specs.declared.event.Event.{Event}
+use Rattle.surf_kinds.specs.declared.site.SiteState.{SiteState}
+use Rattle.lattice.specs.Surface.{after}
+use Rattle.plan.specs.Network.{Network}
+use Rattle.plan.specs.History.{due}
+use Rattle.surface_state.specs.Standing.{Standing}
+use Rattle.one_engine.specs.State.{State, LeavesWithin, fired}
+use Rattle.one_engine.specs.Running.{IsSettled}
+use Rattle.surface_top.specs.declared.pages.Stop.{Stop}
+use Rattle.surface_top.specs.declared.pages.Stop.TheVariants as stops
+use Rattle.surface_top.specs.declared.writer.Span.{Span}
+use Rattle.surface_top.specs.declared.writer.Task.{Task}
+use Rattle.surface_top.specs.declared.writer.Writer.{Writer}
+use Rattle.surface_top.specs.Pages.{Page, Wrote, Sends}
+use Rattle.surface_top.specs.RunText.{Scene, Reached, sampling_ticks, text_from, events_of}
+
+-- what is run and told, of these names and rules
+abbrev pub scene : List (List ℕ) → Network → Span → Scene
+scene names network span = record { names = names; network = network; until = span.until; samples = span.samples; limit = span.limit }
+
+abbrev pub scene_of : Task → Scene
+scene_of t = scene t.names.now t.plan.now t.span
+
+-- how far a writer has come
+abbrev pub reached_of : Writer → Reached
+reached_of w = record { sites = w.surface.sites; events = w.events; ticks = w.ticks }
+
+-- the next event of a surface, within the duration
+abbrev pub next_due : Network → ℕ → List SiteState → Option Event
+next_due n until sites = due n.lattice n.seed n.rules until sites
+
+-- these are the next events of a surface, one after the other
+abbrev pub AreNext : Network → ℕ → List SiteState → List Event → Type 0
+AreNext n until sites [] = Unit {0}
+AreNext n until sites (e ∷ es) = (next_due n until sites ≡ Some e) × AreNext n until (after n.lattice n.rules sites e) es
+
+-- the state of an engine that has fired these events
+abbrev pub fired_all : State → List Event → State
+fired_all s [] = s
+fired_all s (e ∷ es) = fired_all (fired s e) es
+
+-- nothing was told of the run of this surface
+pub record Begins (span : Span) (first : Standing) (w : Writer) : Type 0 where
+  pub surface : w.surface ≡ first
+  pub tally : w.tally ≡ record { limit = span.limit; admitted = 0 }
+  pub events : w.events ≡ 0
+  pub ticks : w.ticks ≡ sampling_ticks span.until span.samples
+  pub within : All (λ tick. tick ≤ span.until) w.ticks
+  pub buffer : w.buffer ≡ record { bytes = []; faults = 0 }
+
+-- the writer's surface is one of the scene on its way, and its counts are those of the scene
+pub record IsReady (s : Scene) (w : Writer) : Type 0 where
+  pub long : s.until ≤ 10 ^ 15
+  pub lattice : w.surface.lattice ≡ s.network.lattice
+  pub kinds : w.surface.kinds ≡ length s.names
+  pub species : All (LeavesWithin w.surface.kinds) s.network.rules
+  pub settled : All IsSettled w.surface.sites
+  pub tally : w.tally ≡ record { limit = s.limit; admitted = w.events }
+  pub within : w.events ≤ s.limit
+  pub ticks : All (λ tick. tick ≤ s.until) w.ticks
+
+-- what is still to be told: the text of the events that the surface has before it
+abbrev pub left : Scene → Reached → List ℕ
+left s r = text_from (events_of s r.sites) s r
+
+-- the number of events in all
+abbrev pub total : Scene → Reached → ℕ
+total s r = r.events + length (events_of s r.sites)
+
+-- a part of what was to be told was written, and the rest is still to be told
+pub record Told (s : Scene) (r q : Reached) (old new : Page) : Type 0 where
+  pub text : List ℕ
+  pub wrote : Wrote old new text
+  pub rest : left s r ≡ text ++ left s q
+  pub same_total : total s r ≡ total s q
+
+-- whether the run had more events than the limit
+abbrev pub EndsWith : {T : Type 0} → Scene → Reached → Result T Stop → Type 0
+EndsWith s r (Ok x) = total s r ≤ s.limit
+EndsWith s r (Err stops.Limit) = s.limit < total s r
+EndsWith s r (Err stops.Write) = Unit {0}
+EndsWith s r (Err stops.Memory) = Unit {0}
+
+-- what stands when nothing more is told
+pub record Ends {T : Type 0} (s : Scene) (r : Reached) (old new : Page) (result : Result T Stop) : Type 0 where
+  pub sends : Sends old new (left s r) result
+  pub limited : EndsWith s r result
+
+-- a part was told and the rest can be told, or nothing more is told
+abbrev pub Tells : {T : Type 0} → Scene → Reached → Reached → Page → Page → Result T Stop → Type 0
+Tells s r q old new (Ok x) = Told s r q old new
+Tells {T} s r q old new (Err stop) = Ends {T = T} s r old new (Err stop)

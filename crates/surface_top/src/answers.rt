@@ -1,0 +1,169 @@
+//! What `check`, `print` and `value` write.
+
+ghost use Rattle.std.specs.Prelude.{◌≡◌, ◌<◌, ◌++◌, ◌∷◌, [], length, IfOk, OnOk, string_bytes};
+ghost use Rattle.surface_top.specs.Answer.{Text, value_answer};
+ghost use Rattle.surface_top.specs.Checks.{check_text, lattice_text, sizes_text};
+ghost use Rattle.surface_top.specs.Ending.{Answered};
+ghost use Rattle.circuit_text.specs.Values.{input_count};
+ghost use Rattle.surface_top.specs.ValueText.{bits_of, bit_text, value_line, value_text, outputs_text};
+ghost use Rattle.manifest_read.specs.Canon.{canonical_text, kind_text, bool_text};
+ghost use Rattle.manifest_read.specs.Manifest.{IsValid};
+
+use crate::buffer::Buffer;
+use crate::ending::Ending;
+use circuit_text::Circuit;
+use lattice::Kind;
+use manifest_read::Manifest;
+use manifest_write::write_manifest;
+use std::alloc::{AllocError, Global};
+use surf_outside::{Failed, Sink, put_all};
+
+/// Writes a text to its end.
+fn put_text<O: Sink>(out: &mut O, text: &[u8]) -> Ending
+    ensures { Answered (Text text.now) result (O.held out.old) (O.held out.new) (O.faults out.old) (O.faults out.new) }
+{
+    match put_all(out, text) {
+        Ok(()) => Ending::Done,
+        Err(Failed) => Ending::WriteFault,
+    }
+}
+
+fn kind_name(kind: Kind) -> &'static str
+    ensures { result.now ≡ kind_text kind }
+{
+    match kind {
+        Kind::Square => "square",
+        Kind::Hex => "hex",
+    }
+}
+
+fn bool_name(value: bool) -> &'static str
+    ensures { result.now ≡ bool_text value }
+{
+    if value { "true" } else { "false" }
+}
+
+/// The front of what `check` says: the lattice.
+fn lattice_part(
+    alloc: Global,
+    rows: u32,
+    cols: u32,
+    kind: &str,
+    wrap: &str,
+) -> Result<String, AllocError>
+    ensures { IfOk result (λ part. string_bytes part ≡ lattice_text rows cols kind.now wrap.now) }
+{
+    format!(in alloc; "ok {rows} {cols} {kind} {wrap}")
+}
+
+/// The back of what `check` says: the numbers of species and rules, and the duration.
+fn sizes_part(alloc: Global, species: u32, rules: usize, until: u64) -> Result<String, AllocError>
+    ensures { IfOk result (λ part. string_bytes part ≡ sizes_text species rules until) }
+{
+    format!(in alloc; " {species} {rules} {until}\n")
+}
+
+/// What `check` says of a manifest.
+fn check_line(alloc: Global, manifest: &Manifest) -> Result<String, AllocError>
+    ensures { IfOk result (λ line. string_bytes line ≡ check_text manifest.now) }
+{
+    let lattice = manifest.lattice;
+    let kind = kind_name(lattice.kind());
+    let wrap = bool_name(lattice.wrap());
+    let mut line = lattice_part(alloc, lattice.rows(), lattice.cols(), kind, wrap)?;
+    let species = manifest.names.count();
+    let rules = manifest.rules.as_slice().len();
+    let sizes = sizes_part(alloc, species, rules, manifest.until)?;
+    line.push_str(sizes.as_str())?;
+    Ok(line)
+}
+
+/// Writes what `check` says of a manifest.
+pub(crate) fn check<O: Sink>(alloc: Global, manifest: &Manifest, out: &mut O) -> Ending
+    ensures { Answered (Text (check_text manifest.now)) result (O.held out.old) (O.held out.new) (O.faults out.old) (O.faults out.new) }
+{
+    match check_line(alloc, manifest) {
+        Ok(line) => put_text(out, line.as_bytes()),
+        Err(_) => Ending::Memory,
+    }
+}
+
+/// Writes the canonical text of a manifest.
+pub(crate) fn print<O: Sink>(alloc: Global, manifest: &Manifest, out: &mut O) -> Ending
+    requires { IsValid manifest.now }
+    ensures { Answered (Text (canonical_text manifest.now)) result (O.held out.old) (O.held out.new) (O.faults out.old) (O.faults out.new) }
+{
+    let mut text = Buffer::new(alloc);
+    match write_manifest(manifest, &mut text) {
+        Ok(()) => put_text(out, text.bytes()),
+        Err(Failed) => Ending::Memory,
+    }
+}
+
+/// The bits that a word of 0 and 1 spells.
+fn bits(alloc: Global, word: &[u8]) -> Result<Vec<bool>, AllocError>
+    ensures { IfOk result (λ bits. bits.items ≡ bits_of word.now) }
+{
+    word.iter().map(|c| *c == b'1').collect(alloc)
+}
+
+/// The back of a line: the value.
+fn bit_part(bit: bool) -> &'static [u8]
+    ensures { result.now ≡ 32 ∷ bit_text bit ++ 10 ∷ [] }
+{
+    if bit { b" 1\n" } else { b" 0\n" }
+}
+
+/// Puts the name of a net and its value.
+fn put_value(
+    text: &mut Vec<u8>,
+    circuit: &Circuit,
+    values: &[bool],
+    net: u32,
+) -> Result<(), AllocError>
+    requires net { net < length circuit.now.nets }
+    requires values { length values.now ≡ length circuit.now.nets }
+    ensures { OnOk result (text.new.items ≡ text.old.items ++ value_line circuit.now values.now net) }
+{
+    text.extend_from_slice(circuit.name(net))?;
+    text.extend_from_slice(bit_part(values[net as usize]))
+}
+
+/// The lines of the outputs.
+fn value_lines(alloc: Global, circuit: &Circuit, values: &[bool]) -> Result<Vec<u8>, AllocError>
+    requires { length values.now ≡ length circuit.now.nets }
+    ensures { IfOk result (λ text. text.items ≡ outputs_text circuit.now values.now) }
+{
+    let mut text = Vec::new(alloc);
+    for i in 0..circuit.output_count() {
+        put_value(&mut text, circuit, values, circuit.output(i))?;
+    }
+    Ok(text)
+}
+
+/// The text of the values of the outputs, for a bit of each input.
+fn value_lines_of(alloc: Global, circuit: &Circuit, word: &[u8]) -> Result<Vec<u8>, AllocError>
+    requires { length word.now ≡ input_count circuit.now.nets }
+    ensures { IfOk result (λ text. text.items ≡ value_text circuit.now (bits_of word.now)) }
+{
+    let bits = bits(alloc, word)?;
+    let Ok(values) = circuit.values(&bits) else {
+        return Err(AllocError);
+    };
+    value_lines(alloc, circuit, &values)
+}
+
+/// Writes the values of the outputs, for a word with a bit of each input.
+pub(crate) fn value<O: Sink>(alloc: Global, circuit: &Circuit, word: &str, out: &mut O) -> Ending
+    ensures { Answered (value_answer word.now circuit.now) result (O.held out.old) (O.held out.new) (O.faults out.old) (O.faults out.new) }
+{
+    let expected = circuit.input_count();
+    let given = word.len() as u64;
+    if given != u64::from(expected) {
+        return Ending::WrongInputs { expected, given };
+    }
+    match value_lines_of(alloc, circuit, word.as_bytes()) {
+        Ok(text) => put_text(out, &text),
+        Err(_) => Ending::Memory,
+    }
+}

@@ -1,0 +1,187 @@
+//! What a run writes: events in the order of the history, and the surfaces between them.
+
+ghost use Rattle.std.specs.Prelude.{◌≡◌, ◌^◌, ◌≤◌, [], length, Some, None, OnOk};
+ghost use Rattle.lattice.specs.Places.{IsPlace};
+ghost use Rattle.lattice.specs.Surface.{after, after_all};
+ghost use Rattle.trace_text.specs.Lines.{event_text, surface_text, end_text, limit_text};
+ghost use Rattle.surface_top.specs.Pages.{page, Puts, StopsWith};
+ghost use Rattle.surface_top.specs.RunText.{shown, ticks_before, ticks_from};
+ghost use Rattle.surface_top.specs.Writing.{scene_of, reached_of, next_due, AreNext, Begins, IsReady, Tells, Ends};
+
+use crate::buffer::Buffer;
+use crate::pages::{Stop, flush, flush_much};
+use crate::ticks::Ticks;
+use ordered_commit::{EventLimit, Tally};
+use plan::Plan;
+use species::Names;
+use std::alloc::Global;
+use surf_kinds::Event;
+use surf_outside::{Failed, Sink};
+use surface_state::Surface;
+use trace_text::{write_end, write_event, write_limit, write_surface};
+
+/// The duration in ticks, how many surfaces are shown, and how many events at most.
+#[derive(Clone, Copy, Debug, PartialEq, Eq)]
+pub(crate) struct Span {
+    pub(crate) until: u64,
+    pub(crate) samples: u64,
+    pub(crate) limit: u64,
+}
+
+/// What is run and told.
+#[derive(Clone, Copy)]
+pub(crate) struct Task<'a> {
+    pub(crate) names: &'a Names,
+    pub(crate) plan: &'a Plan,
+    pub(crate) span: Span,
+}
+
+/// Writes the text of a run from its events, which are handed to it in the order of the history, in lists of any
+/// length. It has a surface of its own, on which the events happen again.
+#[derive(Drop)]
+pub(crate) struct Writer {
+    surface: Surface,
+    tally: Tally,
+    /// How many events were told.
+    events: u64,
+    /// Those at which the surface is still to be shown.
+    ticks: Ticks,
+    buffer: Buffer,
+}
+
+impl Writer {
+    /// A writer that has told nothing of the run of this surface.
+    pub(crate) fn new(alloc: Global, surface: Surface, span: Span) -> Writer
+        requires duration { span.until ≤ 10 ^ 15 }
+        requires samples { span.samples ≤ 10000 }
+        ensures { Begins span surface result }
+    {
+        Writer {
+            surface,
+            tally: Tally::new(span.limit),
+            events: 0,
+            ticks: Ticks::new(span.until, span.samples),
+            buffer: Buffer::new(alloc),
+        }
+    }
+
+    /// Tells the next events of the surface.
+    pub(crate) fn take<O: Sink>(
+        &mut self,
+        task: &Task,
+        out: &mut O,
+        events: &[Event],
+    ) -> Result<(), Stop>
+        requires ready { IsReady (scene_of task.now) self.old }
+        requires next { AreNext task.now.plan.now task.now.span.until self.old.surface.sites events.now }
+        ensures tells { Tells (scene_of task.now) (reached_of self.old) (reached_of self.new) (page (O.held out.old) (O.faults out.old) self.old.buffer) (page (O.held out.new) (O.faults out.new) self.new.buffer) result }
+        ensures sites { OnOk result (self.new.surface.sites ≡ after_all task.now.plan.now.lattice task.now.plan.now.rules self.old.surface.sites events.now) }
+        ensures ready { OnOk result (IsReady (scene_of task.now) self.new) }
+    {
+        for event in events {
+            match self.tell(task, out, *event) {
+                Ok(()) => {}
+                Err(stop) => return Err(stop),
+            }
+        }
+        Ok(())
+    }
+
+    /// Tells the end of the run, where the surface has no more events.
+    pub(crate) fn end<O: Sink>(&mut self, task: &Task, out: &mut O) -> Result<(), Stop>
+        requires ready { IsReady (scene_of task.now) self.old }
+        requires last { next_due task.now.plan.now task.now.span.until self.old.surface.sites ≡ None }
+        ensures { Ends (scene_of task.now) (reached_of self.old) (page (O.held out.old) (O.faults out.old) self.old.buffer) (page (O.held out.new) (O.faults out.new) self.new.buffer) result }
+    {
+        match self.show(task, out, task.span.until + 1) {
+            Ok(()) => {}
+            Err(stop) => return Err(stop),
+        }
+        match write_end(&mut self.buffer, task.span.until, self.events) {
+            Ok(()) => flush(out, &mut self.buffer),
+            Err(Failed) => Err(Stop::Memory),
+        }
+    }
+
+    /// Tells the next event, and the surfaces before it; or that it is one more than the limit.
+    fn tell<O: Sink>(&mut self, task: &Task, out: &mut O, event: Event) -> Result<(), Stop>
+        requires ready { IsReady (scene_of task.now) self.old }
+        requires due { next_due task.now.plan.now task.now.span.until self.old.surface.sites ≡ Some event }
+        ensures tells { Tells (scene_of task.now) (reached_of self.old) (reached_of self.new) (page (O.held out.old) (O.faults out.old) self.old.buffer) (page (O.held out.new) (O.faults out.new) self.new.buffer) result }
+        ensures sites { OnOk result (self.new.surface.sites ≡ after task.now.plan.now.lattice task.now.plan.now.rules self.old.surface.sites event) }
+        ensures ready { OnOk result (IsReady (scene_of task.now) self.new) }
+    {
+        match self.show(task, out, event.time) {
+            Ok(()) => {}
+            Err(stop) => return Err(stop),
+        }
+        match self.tally.admit() {
+            Ok(number) => self.events = number,
+            Err(EventLimit { limit }) => return Err(self.cut(out, limit)),
+        }
+        self.surface.apply(event, task.plan.products(event.channel));
+        self.put_event(task, out, event)
+    }
+
+    /// Writes the surfaces of the sampling ticks before a time.
+    fn show<O: Sink>(&mut self, task: &Task, out: &mut O, time: u64) -> Result<(), Stop>
+        requires ready { IsReady (scene_of task.now) self.old }
+        ensures puts { Puts (page (O.held out.old) (O.faults out.old) self.old.buffer) (page (O.held out.new) (O.faults out.new) self.new.buffer) (shown (scene_of task.now) (reached_of self.old) (ticks_before time self.old.ticks)) result }
+        ensures rest { OnOk result (self.new ≡ record self.old { ticks = ticks_from time self.old.ticks; buffer = self.new.buffer }) }
+    {
+        while let Some(tick) = self.ticks.before(time) {
+            match self.put_surface(task, out, tick) {
+                Ok(()) => {}
+                Err(stop) => return Err(stop),
+            }
+        }
+        Ok(())
+    }
+
+    /// Writes the surface as it stands.
+    fn put_surface<O: Sink>(&mut self, task: &Task, out: &mut O, tick: u64) -> Result<(), Stop>
+        requires lattice { self.old.surface.lattice ≡ task.now.plan.now.lattice }
+        requires kinds { self.old.surface.kinds ≡ length task.now.names.now }
+        ensures puts { Puts (page (O.held out.old) (O.faults out.old) self.old.buffer) (page (O.held out.new) (O.faults out.new) self.new.buffer) (surface_text task.now.names.now task.now.plan.now.lattice self.old.surface.sites tick self.old.events) result }
+        ensures rest { self.new ≡ record self.old { buffer = self.new.buffer } }
+    {
+        let lattice = task.plan.lattice();
+        match write_surface(
+            &mut self.buffer,
+            task.names,
+            lattice,
+            &self.surface,
+            tick,
+            self.events,
+        ) {
+            Ok(()) => flush_much(out, &mut self.buffer),
+            Err(Failed) => Err(Stop::Memory),
+        }
+    }
+
+    /// Writes the line of an event.
+    fn put_event<O: Sink>(&mut self, task: &Task, out: &mut O, event: Event) -> Result<(), Stop>
+        requires { IsPlace task.now.plan.now.lattice event.place.0 }
+        ensures puts { Puts (page (O.held out.old) (O.faults out.old) self.old.buffer) (page (O.held out.new) (O.faults out.new) self.new.buffer) (event_text task.now.plan.now.lattice.cols event) result }
+        ensures rest { self.new ≡ record self.old { buffer = self.new.buffer } }
+    {
+        match write_event(&mut self.buffer, task.plan.lattice(), event) {
+            Ok(()) => flush_much(out, &mut self.buffer),
+            Err(Failed) => Err(Stop::Memory),
+        }
+    }
+
+    /// Writes the limit line, and sends all that waits.
+    fn cut<O: Sink>(&mut self, out: &mut O, limit: u64) -> Stop
+        ensures { StopsWith (page (O.held out.old) (O.faults out.old) self.old.buffer) (page (O.held out.new) (O.faults out.new) self.new.buffer) (limit_text limit) result }
+    {
+        match write_limit(&mut self.buffer, limit) {
+            Ok(()) => {}
+            Err(Failed) => return Stop::Memory,
+        }
+        match flush(out, &mut self.buffer) {
+            Ok(()) => Stop::Limit,
+            Err(stop) => stop,
+        }
+    }
+}
