@@ -128,7 +128,8 @@ impl Circuit {
 
     /// How many outputs there are.
     pub fn output_count(&self) -> u32
-        ensures { result ≡ length self.now.outputs }
+        ensures count { result ≡ length self.now.outputs }
+        ensures within { (i : ℕ) → i < result → get_or self.now.outputs i 0 < length self.now.nets }
     {
         self.outputs.len() as u32
     }

@@ -13,6 +13,7 @@ use Rattle.plan.specs.Network.{Network}
 use Rattle.surface_state.specs.Standing.{Standing}
 use Rattle.one_engine.specs.State.{State, LeavesWithin}
 use Rattle.one_engine.specs.Running.{IsSettled}
+use Rattle.one_engine.proofs.After.{first_settled}
 use Rattle.surface_top.specs.declared.pages.Stop.{Stop}
 use Rattle.surface_top.specs.declared.pages.Stop.TheVariants as stops
 use Rattle.surface_top.specs.declared.writer.Span.{Span}
@@ -25,8 +26,6 @@ use Rattle.surface_top.proofs.Written.{wrote_all}
 use Rattle.surface_top.proofs.Firing.{same_reached}
 
 -- a first surface was never rewritten
-pub first_settled : (cells : List SpeciesId) → All IsSettled (first_surface cells)
-first_settled cells = All-map IsSettled fresh cells (λ k d h. record { version = omega arith; last = omega arith })
 
 pub first_versions : (cells : List SpeciesId) → All (λ (s : SiteState). s.version ≤ 7 * s.last) (first_surface cells)
 first_versions cells = All-map (λ (s : SiteState). s.version ≤ 7 * s.last) fresh cells (λ k d h. omega arith)

@@ -1,0 +1,4 @@
+pub mod KeyOrder
+pub mod Cutting
+pub mod StackFacts
+pub mod Waiting

@@ -1,0 +1,9 @@
+pub mod Gates
+pub mod Places
+pub mod Agrees
+pub mod Ends
+pub mod Shows
+pub mod Sources
+pub mod Fed
+pub mod Edges
+pub mod Whole

@@ -1,0 +1,4 @@
+pub mod Nets
+pub mod Table
+pub mod Layout
+pub mod Within

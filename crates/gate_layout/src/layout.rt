@@ -1,0 +1,244 @@
+//! The layout of a circuit.
+
+ghost use Rattle.std.specs.Prelude.{◌≡◌, ℕ, ◌<◌, ◌≤◌, ◌+◌, ◌*◌, ◌^◌, ◌↔◌, ◌⊎◌, length, get_or, IfOk, IfErr, IsErr, IsNone};
+ghost use Rattle.std.specs.Option.{option_map};
+ghost use Rattle.gate_layout.specs.Nets.{gate_count, input_net, AreNumbered};
+ghost use Rattle.gate_layout.specs.Table.{IsWellFormed, IsInput, halves, spot_of};
+ghost use Rattle.gate_layout.specs.Layout.{row_count, col_count, site_count, role_of, side_of, feeder_of, rank_of, input_cell, output_cell, layout};
+ghost use Rattle.gate_layout.specs.Layout.{row_of as row_at, column_of as column_at};
+ghost use Rattle.gate_layout.specs.Within.{IsRowOf, IsColumnOf};
+ghost use Rattle.circuit_text.specs.Values.{AreNets, input_count};
+
+use crate::feeds::{halves, input_net, neighbour, side_in};
+use crate::parts::{Column, Row, Side, column_of, row_of};
+use crate::ranks::rank_in;
+use crate::role::Role;
+use crate::roles::role_in;
+use crate::table::Roles;
+use circuit_text::Circuit;
+use std::marker::Model;
+
+/// The most cells of a layout.
+const MOST_SITES: u64 = 1 << 20;
+
+/// A layout has more than 2^20 cells.
+#[derive(Clone, Copy, Debug, PartialEq, Eq)]
+pub struct TooManySites {
+    /// How many it has.
+    pub sites: u64,
+}
+
+/// The layout of a circuit: a row for each net, six columns for each gate, and where they meet a crossing or a wire.
+/// Cells are told by row and column.
+#[derive(Drop)]
+pub struct Layout<'a> {
+    circuit: &'a Circuit,
+}
+
+impl<'a> Model for Layout<'a> {
+    ghost use Rattle.std.specs.Prelude.{◌≤◌, ◌^◌};
+    ghost use Rattle.circuit_text.specs.Circuits.{NetList};
+    ghost use Rattle.gate_layout.specs.Layout.{site_count};
+
+    ghost Value = { NetList };
+
+    ghost view = { λ l. l.circuit.now };
+
+    ghost invariant = { λ l. site_count l.circuit.now.nets ≤ 2 ^ 20 };
+}
+
+/// What each circuit keeps: it has at most 65,536 nets, its inputs are numbered in the order of the nets, and its
+/// outputs are nets. The calls say so, and their answers are not needed.
+fn keeps(circuit: &Circuit)
+    ensures few { length circuit.now.nets ≤ 65536 }
+    ensures nets { AreNets circuit.now.nets }
+    ensures inputs { AreNumbered circuit.now.nets }
+    ensures outputs { (i : ℕ) → i < length circuit.now.outputs → get_or circuit.now.outputs i 0 < length circuit.now.nets }
+{
+    let _nets = circuit.net_count();
+    let _inputs = circuit.input_count();
+    let _outputs = circuit.output_count();
+}
+
+/// What a row and a column are for.
+#[tactic(auto, using(crate::proofs::Places::column_is, crate::proofs::Places::row_inside))]
+fn places(circuit: &Circuit, row: u32, col: u32) -> (Row, Column)
+    requires row { row < row_count circuit.now.nets }
+    requires few { 6 * gate_count circuit.now.nets < 2 ^ 20 }
+    ensures row { result.0 ≡ row_at (length circuit.now.nets) row }
+    ensures column { result.1 ≡ column_at (gate_count circuit.now.nets) col }
+    ensures row_within { IsRowOf circuit.now.nets result.0 }
+    ensures column_within { IsColumnOf circuit.now.nets result.1 }
+{
+    (
+        row_of(circuit.net_count(), row),
+        column_of(circuit.gate_count(), col),
+    )
+}
+
+/// The role of a cell.
+#[tactic(auto, unfolding(crate::specs::Layout::role_of))]
+fn role(circuit: &Circuit, row: u32, col: u32) -> Role
+    requires row { row < row_count circuit.now.nets }
+    requires few { 6 * gate_count circuit.now.nets < 2 ^ 20 }
+    ensures { result ≡ role_of circuit.now.nets row col }
+{
+    let (place, column) = places(circuit, row, col);
+    role_in(circuit, place, column)
+}
+
+/// The side of a half from which it is filled; `None` for an input cell and for a half that the role hasn't.
+#[tactic(auto, using(crate::proofs::Agrees::role_named))]
+fn side(circuit: &Circuit, row: u32, col: u32, half: u8) -> Option<Side>
+    requires row { row < row_count circuit.now.nets }
+    requires col { col < col_count circuit.now.nets }
+    requires few { 6 * gate_count circuit.now.nets < 2 ^ 20 }
+    ensures { result ≡ side_of circuit.now.nets row col half }
+{
+    keeps(circuit);
+    if half >= halves(circuit, role(circuit, row, col)) {
+        return None;
+    }
+    let (place, column) = places(circuit, row, col);
+    side_in(circuit, place, column, col, half)
+}
+
+/// The cell from which a half is filled.
+#[tactic(auto, using(crate::proofs::Edges::north_inside, crate::proofs::Edges::west_inside), unfolding(crate::specs::Layout::feeder_of))]
+fn feeder(circuit: &Circuit, row: u32, col: u32, half: u8) -> Option<(u32, u32)>
+    requires row { row < row_count circuit.now.nets }
+    requires col { col < col_count circuit.now.nets }
+    requires sites { site_count circuit.now.nets ≤ 2 ^ 20 }
+    ensures { option_map spot_of result ≡ feeder_of circuit.now.nets row col half }
+{
+    match side(circuit, row, col, half) {
+        Some(side) => Some(neighbour(row, col, side)),
+        None => None,
+    }
+}
+
+impl<'a> Layout<'a> {
+    /// The layout of a circuit, where it has at most 2^20 cells. It is well-formed: the roles of neighbours agree,
+    /// inputs and outputs have wires of their nets, and each half but those of input cells has a feeder of a lower
+    /// rank.
+    pub fn of(circuit: &'a Circuit) -> Result<Layout<'a>, TooManySites>
+        ensures laid { IfOk result (λ laid. laid ≡ circuit.now) }
+        ensures sites { IfErr result (λ error. error.sites ≡ site_count circuit.now.nets) }
+        ensures refused { IsErr result ↔ (2 ^ 20 < site_count circuit.now.nets) }
+        ensures formed { IsWellFormed circuit.now (layout circuit.now) }
+    {
+        keeps(circuit);
+        let rows = 2 * circuit.net_count() as u64 + 2;
+        let cols = 6 * circuit.gate_count() as u64 + 3;
+        let sites = rows * cols;
+        if sites > MOST_SITES {
+            return Err(TooManySites { sites });
+        }
+        Ok(Layout { circuit })
+    }
+
+    /// Two rows for each net, and two more.
+    pub fn rows(&self) -> u32
+        ensures rows { result ≡ row_count self.now.nets }
+        ensures sites { site_count self.now.nets ≤ 2 ^ 20 }
+    {
+        let circuit = self.circuit;
+        2 * circuit.net_count() + 2
+    }
+
+    /// Six columns for each gate, and three more.
+    pub fn cols(&self) -> u32
+        ensures { result ≡ col_count self.now.nets }
+    {
+        let circuit = self.circuit;
+        6 * circuit.gate_count() + 3
+    }
+
+    /// The role of a cell.
+    pub fn role(&self, row: u32, col: u32) -> Role
+        requires row { row < row_count self.now.nets }
+        requires col { col < col_count self.now.nets }
+        ensures { result ≡ role_of self.now.nets row col }
+    {
+        let circuit = self.circuit;
+        role(circuit, row, col)
+    }
+
+    /// The cell of an input: the first one in the row of the input's net.
+    pub fn input_cell(&self, i: u32) -> (u32, u32)
+        requires { i < input_count self.now.nets }
+        ensures { spot_of result ≡ input_cell self.now.nets i }
+    {
+        let circuit = self.circuit;
+        keeps(circuit);
+        (2 * input_net(circuit, i), 0)
+    }
+
+    /// The cell of an output: the last one in the row of the output's net.
+    pub fn output_cell(&self, i: u32) -> (u32, u32)
+        requires { i < length self.now.outputs }
+        ensures { spot_of result ≡ output_cell self.now i }
+    {
+        let circuit = self.circuit;
+        (2 * circuit.output(i), 6 * circuit.gate_count() + 2)
+    }
+
+    /// The neighbour from which a half is filled. Half 0 is the row half of a crossing or the first operand of a
+    /// gate, half 1 the other; other roles have half 0. `None` exactly for inert cells, for input cells, and for
+    /// halves that the role hasn't.
+    pub fn feeder(&self, row: u32, col: u32, half: u8) -> Option<(u32, u32)>
+        requires row { row < row_count self.now.nets }
+        requires col { col < col_count self.now.nets }
+        ensures feeder { option_map spot_of result ≡ feeder_of self.now.nets row col half }
+        ensures none { IsNone result ↔ ((halves self.now.nets (role_of self.now.nets row col) ≤ half) ⊎ IsInput (layout self.now) (spot_of (row, col))) }
+    {
+        let circuit = self.circuit;
+        keeps(circuit);
+        feeder(circuit, row, col, half)
+    }
+
+    /// The rank of a half. A half that has a feeder has a higher rank than the halves of the feeder that fill it.
+    #[tactic(auto, unfolding(crate::specs::Layout::rank_of))]
+    pub fn rank(&self, row: u32, col: u32, half: u8) -> u64
+        requires row { row < row_count self.now.nets }
+        requires col { col < col_count self.now.nets }
+        ensures { result ≡ rank_of self.now.nets row col half }
+    {
+        let circuit = self.circuit;
+        rank_in(circuit, places(circuit, row, col), row, col, half)
+    }
+}
+
+impl<'a> Roles for Layout<'a> {
+    ghost use Rattle.gate_layout.specs.Layout.{layout};
+
+    ghost table = { layout };
+
+    fn rows(&self) -> u32 {
+        self.rows()
+    }
+
+    fn cols(&self) -> u32 {
+        self.cols()
+    }
+
+    fn role(&self, row: u32, col: u32) -> Role {
+        self.role(row, col)
+    }
+
+    fn input_cell(&self, i: u32) -> (u32, u32) {
+        self.input_cell(i)
+    }
+
+    fn output_cell(&self, i: u32) -> (u32, u32) {
+        self.output_cell(i)
+    }
+
+    fn feeder(&self, row: u32, col: u32, half: u8) -> Option<(u32, u32)> {
+        self.feeder(row, col, half)
+    }
+
+    fn rank(&self, row: u32, col: u32, half: u8) -> u64 {
+        self.rank(row, col, half)
+    }
+}

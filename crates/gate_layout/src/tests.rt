@@ -1,0 +1,198 @@
+use super::*;
+use circuit_text::{Circuit, read_circuit};
+use std::alloc::Global;
+use std::test::Fail;
+
+/// A letter for each role.
+fn letter(role: Role) -> u8 {
+    match role {
+        Role::Inert => b'.',
+        Role::Wire { .. } => b'w',
+        Role::Vert { .. } => b'v',
+        Role::PinA { .. } => b'p',
+        Role::PinB { .. } => b'q',
+        Role::Cross { .. } => b'c',
+        Role::Gate { .. } => b'g',
+    }
+}
+
+/// The letters of a table's roles, with a line for each row.
+fn letters<T: Roles>(alloc: Global, table: &T) -> Result<Vec<u8>, Fail> {
+    let mut text = Vec::new(alloc);
+    for row in 0..table.rows() {
+        for col in 0..table.cols() {
+            text.push(letter(table.role(row, col)))?;
+        }
+        text.push(b'\n')?;
+    }
+    Ok(text)
+}
+
+/// The role of a cell; nothing past the table's edges.
+fn role_at<T: Roles>(table: &T, row: u32, col: u32) -> Option<Role> {
+    if row < table.rows() && col < table.cols() {
+        Some(table.role(row, col))
+    } else {
+        None
+    }
+}
+
+/// The feeder of a half; nothing past the table's edges.
+fn feeder_at<T: Roles>(table: &T, row: u32, col: u32, half: u8) -> Option<(u32, u32)> {
+    if row < table.rows() && col < table.cols() {
+        table.feeder(row, col, half)
+    } else {
+        None
+    }
+}
+
+/// The rank of a half; 0 past the table's edges.
+fn rank_at<T: Roles>(table: &T, row: u32, col: u32, half: u8) -> u64 {
+    if row < table.rows() && col < table.cols() {
+        table.rank(row, col, half)
+    } else {
+        0
+    }
+}
+
+const XOR: &[u8] = b"input a b\nx = XOR a b\noutput x\n";
+
+#[test]
+fn a_gate_of_two_operands_is_laid_out(rt: HostRuntime) -> Result<(), Fail> {
+    let alloc = rt.alloc();
+    let circuit = read_circuit(alloc, XOR)?;
+    let laid = Layout::of(&circuit)?;
+    let expected =
+        b"wwwwwwwww\n.v.......\nwcwwwwwww\n.v.v.....\nwcwcwwwww\n.v.v.v...\n.pgq.v...\n..wwww...\n";
+    assert_eq!(rt; laid.rows(), 8);
+    assert_eq!(rt; laid.cols(), 9);
+    assert!(rt; letters(alloc, &laid)?.as_slice() == expected.as_slice());
+    // the nets are a, b and x, by their numbers 0, 1 and 2
+    for (row, col, role) in [
+        (2, 8, Role::Wire { net: 1 }),
+        (3, 3, Role::Vert { net: 1 }),
+        (5, 5, Role::Vert { net: 2 }),
+        (6, 1, Role::PinA { net: 0 }),
+        (6, 3, Role::PinB { net: 1 }),
+        (6, 2, Role::Gate { gate: 0 }),
+        (7, 4, Role::Wire { net: 2 }),
+    ] {
+        assert_eq!(rt; role_at(&laid, row, col), Some(role), "at {row} {col}");
+    }
+    let crossing = Role::Cross {
+        row_net: 2,
+        col_net: 1,
+    };
+    assert_eq!(rt; role_at(&laid, 4, 3), Some(crossing));
+    Ok(())
+}
+
+#[test]
+fn a_gate_of_one_operand_has_one_pin(rt: HostRuntime) -> Result<(), Fail> {
+    let alloc = rt.alloc();
+    let circuit = read_circuit(alloc, b"input a\noutput x\nx = NOT a\n")?;
+    let laid = Layout::of(&circuit)?;
+    let expected = b"wwwwwwwww\n.v.......\nwcwwwwwww\n.v...v...\n.pg..v...\n..wwww...\n";
+    assert!(rt; letters(alloc, &laid)?.as_slice() == expected.as_slice());
+    assert_eq!(rt; feeder_at(&laid, 4, 2, 0), Some((4, 1)));
+    assert_eq!(rt; feeder_at(&laid, 4, 2, 1), None);
+    Ok(())
+}
+
+#[test]
+fn halves_are_filled_from_their_neighbours(rt: HostRuntime) -> Result<(), Fail> {
+    let alloc = rt.alloc();
+    let circuit = read_circuit(alloc, XOR)?;
+    let laid = Layout::of(&circuit)?;
+    for (row, col, half, from) in [
+        // the input b runs along its row and down to its pin
+        (2, 1, 0, (2, 0)),
+        (2, 1, 1, (1, 1)),
+        (3, 3, 0, (2, 3)),
+        (4, 3, 1, (3, 3)),
+        (6, 3, 0, (5, 3)),
+        // both pins fill the gate, and it leads up to the row of x
+        (6, 2, 0, (6, 1)),
+        (6, 2, 1, (6, 3)),
+        (7, 2, 0, (6, 2)),
+        (7, 5, 0, (7, 4)),
+        (6, 5, 0, (7, 5)),
+        (5, 5, 0, (6, 5)),
+        (4, 5, 0, (5, 5)),
+        // there it runs both ways
+        (4, 3, 0, (4, 4)),
+        (4, 8, 0, (4, 7)),
+    ] {
+        assert_eq!(rt;
+            feeder_at(&laid, row, col, half),
+            Some(from),
+            "at {row} {col} {half}"
+        );
+        let (above, beside) = from;
+        let fed = rank_at(&laid, row, col, half);
+        assert!(rt;
+            rank_at(&laid, above, beside, 0) < fed,
+            "at {row} {col} {half}"
+        );
+    }
+    // input cells, an inert cell, and a half that a wire hasn't
+    for (row, col, half) in [(0, 0, 0), (2, 0, 0), (1, 0, 0), (4, 8, 1)] {
+        assert_eq!(rt;
+            feeder_at(&laid, row, col, half),
+            None,
+            "at {row} {col} {half}"
+        );
+    }
+    Ok(())
+}
+
+/// A name of two letters for each number below 676.
+fn add_name(text: &mut Vec<u8>, number: u32) -> Result<(), Fail> {
+    text.push(b'a' + (number / 26 % 26) as u8)?;
+    text.push(b'a' + (number % 26) as u8)?;
+    Ok(())
+}
+
+/// One input, and so many gates that each pass on the net before.
+fn chain(alloc: Global, gates: u32) -> Result<Circuit, Fail> {
+    let mut text = b"input aa\noutput aa\n".to_vec(alloc)?;
+    for gate in 0..gates {
+        add_name(&mut text, gate + 1)?;
+        text.extend_from_slice(b" = BUF ")?;
+        add_name(&mut text, gate)?;
+        text.push(b'\n')?;
+    }
+    // far longer than the texts of these tests
+    text.truncate(1_000_000);
+    Ok(read_circuit(alloc, &text)?)
+}
+
+#[test]
+fn no_more_than_1048576_cells_are_laid_out(rt: HostRuntime) -> Result<(), Fail> {
+    let alloc = rt.alloc();
+    let most = chain(alloc, 294)?;
+    let laid = Layout::of(&most)?;
+    assert_eq!(rt; laid.rows() * laid.cols(), 1_046_064);
+    let more = chain(alloc, 295)?;
+    assert_eq!(rt;
+        Layout::of(&more).err(),
+        Some(TooManySites { sites: 1_053_162 })
+    );
+    Ok(())
+}
+
+#[test]
+fn inputs_and_outputs_have_cells(rt: HostRuntime) -> Result<(), Fail> {
+    let alloc = rt.alloc();
+    // the nets are a, x, b, y; the inputs a and b, the outputs y and a
+    let text = b"input a\nx = BUF a\ninput b\noutput y a\ny = AND x b\n";
+    let circuit = read_circuit(alloc, text.as_slice())?;
+    let laid = Layout::of(&circuit)?;
+    if circuit.input_count() == 2 && circuit.output_count() == 2 {
+        assert_eq!(rt; laid.input_cell(0), (0, 0));
+        assert_eq!(rt; laid.input_cell(1), (4, 0));
+        assert_eq!(rt; laid.output_cell(0), (6, 14));
+        assert_eq!(rt; laid.output_cell(1), (0, 14));
+    }
+    Ok(())
+}

@@ -1,0 +1,3 @@
+pub mod Rising
+pub mod Leading
+pub mod Undoing

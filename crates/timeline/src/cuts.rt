@@ -1,0 +1,54 @@
+//! Cutting entries at a key, from the last on or from the first.
+
+ghost use Rattle.std.specs.Prelude.{◌≡◌, ◌++◌, ◌∷◌, [], length, false, None, IfSome, IfNone, IsTrue, vec_capacity};
+ghost use Rattle.std.specs.List.{last_or};
+ghost use Rattle.surf_kinds.specs.Keys.{RiseStrictly};
+ghost use Rattle.surface_state.specs.Standing.{Standing};
+ghost use Rattle.timeline.specs.Held.{events_of, is_below, below, from};
+ghost use Rattle.timeline.specs.Led.{LedTo};
+
+use crate::entry::Entry;
+use surf_kinds::Key;
+use surface_state::Surface;
+
+/// Takes the last entry out, where its key is at least this one.
+fn pop_from(entries: &mut Vec<Entry>, key: Key) -> Option<Entry>
+    ensures last { IfSome result (λ e. entries.old.items ≡ entries.new.items ++ e ∷ []) }
+    ensures from { IfSome result (λ e. is_below key e ≡ false) }
+    ensures same { IfNone result (entries.new.items ≡ entries.old.items) }
+    ensures below { IfNone result (IfSome (last_or None entries.old.items) (λ e. IsTrue (is_below key e))) }
+    ensures capacity { vec_capacity entries.new ≡ vec_capacity entries.old }
+{
+    let last = *entries.last()?;
+    if last.is_below(key) {
+        return None;
+    }
+    entries.pop()
+}
+
+/// Undoes and removes the entries from a key on, last first. Answers how many.
+pub(crate) fn undo_from(entries: &mut Vec<Entry>, key: Key, surface: &mut Surface) -> u64
+    requires rise { RiseStrictly (events_of entries.old.items) }
+    requires led { (base : Standing) × LedTo base entries.old.items surface.old }
+    ensures entries { entries.new.items ≡ below key entries.old.items }
+    ensures answer { result ≡ length (from key entries.old.items) }
+    ensures surface { (stood : Standing) → LedTo stood (from key entries.old.items) surface.old → surface.new ≡ stood }
+    ensures lattice { surface.new.lattice ≡ surface.old.lattice }
+    ensures kinds { surface.new.kinds ≡ surface.old.kinds }
+    ensures capacity { vec_capacity entries.new ≡ vec_capacity entries.old }
+{
+    let mut undone = 0;
+    while let Some(entry) = pop_from(entries, key) {
+        surface.undo(entry.before);
+        undone += 1;
+    }
+    undone
+}
+
+/// Removes the entries below a key.
+pub(crate) fn forget_below(entries: &mut Vec<Entry>, key: Key)
+    ensures entries { entries.new.items ≡ from key entries.old.items }
+    ensures capacity { vec_capacity entries.new ≡ vec_capacity entries.old }
+{
+    entries.retain(|entry| !entry.is_below(key));
+}
