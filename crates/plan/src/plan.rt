@@ -5,7 +5,7 @@ ghost use Rattle.plan.specs.Index.{reactants_at, IsChannel, earliest_after, arme
 ghost use Rattle.plan.specs.Next.{latest, next_at, occurrence};
 ghost use Rattle.plan.specs.Open.{IsOpen};
 ghost use Rattle.plan.specs.Held.{IsIndexed};
-ghost use Rattle.plan.specs.Products.{fits_place, products_of};
+ghost use Rattle.plan.specs.Products.{fits_place, has_two, has_way, products_of};
 
 use crate::index::{Channel, Index, Reactants};
 use crate::order::earlier;
@@ -127,7 +127,8 @@ impl Plan {
         }
     }
 
-    /// Whether the number is a place of the lattice, and the channel one of a rule with that place's number of sites.
+    /// Whether the number is a place of the lattice, and the channel one of a rule with that place's number of sites. A
+    /// rule of one site has way 0 alone, and so has one of two sites whose two ways are the same.
     pub fn fits(&self, place: Place, channel: u16) -> bool
         ensures { result ≡ fits_place self.now.lattice self.now.rules place.0 channel }
     {
@@ -136,8 +137,7 @@ impl Plan {
         };
         match self.rules.get(usize::from(channel / 2)) {
             None => false,
-            Some(Rule::One { .. }) => sites.second.is_none(),
-            Some(Rule::Two { .. }) => sites.second.is_some(),
+            Some(rule) => has_second(rule) == sites.second.is_some() && has_way(channel % 2, rule),
         }
     }
 
@@ -207,4 +207,30 @@ fn index_of(alloc: Global, rules: &[Rule]) -> Result<Index, NoMemory>
         }
     }
     Ok(index)
+}
+
+/// Whether the rule has two sites.
+fn has_second(rule: &Rule) -> bool
+    ensures { result ≡ has_two rule.now }
+{
+    match rule {
+        Rule::One { .. } => false,
+        Rule::Two { .. } => true,
+    }
+}
+
+/// Whether the rule has this way.
+fn has_way(way: u16, rule: &Rule) -> bool
+    ensures { result ≡ has_way way rule.now }
+{
+    match rule {
+        Rule::One { .. } => way == 0,
+        Rule::Two {
+            rate: _,
+            a,
+            b,
+            c,
+            d,
+        } => way == 0 || !(a.0 == b.0 && c.0 == d.0),
+    }
 }
