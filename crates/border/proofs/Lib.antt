@@ -1,4 +1,4 @@
-pub mod KeyOrder
 pub mod Cutting
+pub mod Replays
 pub mod StackFacts
 pub mod Waiting

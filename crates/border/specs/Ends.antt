@@ -1,7 +1,6 @@
 -- What is seen of the two ends of a ring, and how they change.
-use Rattle.std.specs.Prelude.{ℕ, ◌+◌, ◌-◌, List, [], ◌∷◌, ◌++◌, length, min, drop, refl}
-use Rattle.std.specs.Coded.{Coded, code_by, coded×, coded_ℕ}
-use denote.RawPtr.{Ptr, coded_ptr}
+use Rattle.std.specs.Prelude.{ℕ, ◌+◌, ◌-◌, List, [], ◌∷◌, ◌++◌, length, min, drop}
+use denote.RawPtr.{Ptr}
 use Rattle.rtrb.specs.declared.producer.Producer.{Producer}
 use Rattle.rtrb.specs.declared.consumer.Consumer.{Consumer}
 use Rattle.border.specs.declared.op.Op.{Op}
@@ -11,11 +10,6 @@ pub record RingName : Type 0 where
   pub words : Ptr
   pub cells : Ptr
   pub names : ℕ × (ℕ × ℕ)
-
--- the code by which a proof tells two names apart
-abbrev pub name_code : Coded RingName
-name_code =
-    code_by (Ptr × (Ptr × (ℕ × (ℕ × ℕ)))) (coded× coded_ptr (coded× coded_ptr (coded× coded_ℕ (coded× coded_ℕ coded_ℕ)))) (λ r. (r.words, (r.cells, r.names))) (λ p. record { words = p.0; cells = p.1.0; names = p.1.1 }) (λ _. refl)
 
 module _ {A P : Type 0} where
   abbrev pub name_of_out : Producer Op A P → RingName

@@ -1,4 +1,3 @@
-pub mod Keys
 pub mod Messages
 pub mod Ends
 pub mod Stacked

@@ -57,9 +57,7 @@ pub fn ring(alloc: Global, slots: u32) -> Result<(OutEnd, InEnd), NoMemory>
     ensures out { IfOk result (λ r. (r.0.sent ≡ []) × (r.0.free ≡ slots)) }
     ensures inn { IfOk result (λ r. (r.1.received ≡ []) × (r.1.ahead ≡ []) × (r.1.asked ≡ 0)) }
 {
-    let Ok((producer, consumer)) = RingBuffer::new(alloc, slots as usize) else {
-        return Err(NoMemory);
-    };
+    let (producer, consumer) = RingBuffer::new(alloc, slots as usize)?;
     let out = OutEnd {
         producer,
         free: slots as usize,

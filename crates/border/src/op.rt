@@ -1,5 +1,8 @@
 //! Messages.
 
+ghost use Rattle.std.specs.Prelude.{◌≡◌};
+ghost use Rattle.border.specs.Messages.{op_key};
+
 use surf_kinds::{Event, Key};
 
 /// What a region tells another one.
@@ -9,4 +12,17 @@ pub enum Op {
     Put(Event),
     /// No event that was told with this key or a greater one stands.
     Back(Key),
+}
+
+impl Op {
+    /// The key from which on the message cuts a stack: that of its event, or the one that it names.
+    #[inline]
+    pub fn key(&self) -> Key
+        ensures { result ≡ op_key self.now }
+    {
+        match self {
+            Op::Put(event) => event.key(),
+            Op::Back(key) => *key,
+        }
+    }
 }

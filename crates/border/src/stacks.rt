@@ -1,10 +1,9 @@
 //! The stacks of received events.
 
 ghost use Rattle.std.specs.Prelude.{◌≡◌, ◌+◌, ◌<◌, ◌≤◌, length, OnOk, vec_len, vec_capacity};
-ghost use Rattle.surf_kinds.specs.Keys.{RiseStrictly};
-ghost use Rattle.border.specs.Keys.{below};
+ghost use Rattle.surf_kinds.specs.Keys.{RiseStrictly, below};
 ghost use Rattle.border.specs.Messages.{replay_one};
-ghost use Rattle.border.specs.Stacked.{AreGrown, HaveRoom};
+ghost use Rattle.border.specs.Stacked.{AreGrown, HaveRoom, IsRest, AreRests};
 
 use crate::op::Op;
 use std::alloc::Global;
@@ -14,13 +13,13 @@ use surf_kinds::{Event, Key, NoMemory};
 /// Removes the events whose key is `key` or greater, and answers how many they were.
 pub fn cut(stack: &mut Vec<Event>, key: Key) -> u64
     requires { RiseStrictly stack.old.items }
-    ensures kept { stack.new.items ≡ below key stack.old.items }
+    ensures items { stack.new.items ≡ below key stack.old.items }
     ensures count { result + vec_len stack.new ≡ vec_len stack.old }
     ensures rising { RiseStrictly stack.new.items }
     ensures room { vec_capacity stack.new ≡ vec_capacity stack.old }
 {
     let mut keep = stack.len();
-    while keep > 0 && stack[keep - 1].key() >= key {
+    while keep > 0 && !stack[keep - 1].key().is_before(key) {
         keep -= 1;
     }
     let count = (stack.len() - keep) as u64;
@@ -37,14 +36,9 @@ fn replay_on(stack: &mut Vec<Event>, op: Op)
     ensures len { vec_len stack.new ≤ vec_len stack.old + 1 }
     ensures capacity { vec_capacity stack.old ≤ vec_capacity stack.new }
 {
-    match op {
-        Op::Put(event) => {
-            cut(stack, event.key());
-            stack.push_reserved(event);
-        }
-        Op::Back(key) => {
-            cut(stack, key);
-        }
+    cut(stack, op.key());
+    if let Op::Put(event) = op {
+        stack.push_reserved(event);
     }
 }
 
@@ -54,12 +48,25 @@ fn make_room(stacks: &mut [Vec<Event>], more: u32) -> Result<(), NoMemory>
     ensures ok { OnOk result (HaveRoom more (length stacks.old) stacks.new) }
 {
     for i in 0..stacks.len() {
-        let stack = &mut stacks[i];
-        let Ok(()) = stack.reserve(more as usize) else {
-            return Err(NoMemory);
-        };
+        stacks[i].reserve(more as usize)?;
     }
     Ok(())
+}
+
+/// Removes the events below a key.
+fn forget(stack: &mut Vec<Event>, key: Key)
+    ensures { IsRest key stack.old stack.new }
+{
+    stack.retain(|event| !event.key().is_before(key));
+}
+
+/// Removes the events below a key from each stack.
+fn forget_each(stacks: &mut [Vec<Event>], key: Key)
+    ensures { AreRests key stacks.old stacks.new }
+{
+    for i in 0..stacks.len() {
+        forget(&mut stacks[i], key);
+    }
 }
 
 /// For each sender the events that stand of those that it told, with keys that rise strictly, and room for a number
@@ -81,8 +88,8 @@ impl Model for Stacks {
 }
 
 impl Stacks {
-    ghost use Rattle.std.specs.Prelude.{◌≡◌, ◌-◌, ◌<◌, [], length, max, slice_set, OnOk, OnErr, IfOk, replicate};
-    ghost use Rattle.surf_kinds.specs.Keys.{RiseStrictly};
+    ghost use Rattle.std.specs.Prelude.{◌≡◌, ◌-◌, ◌<◌, [], length, map, max, slice_set, OnOk, OnErr, IfOk, replicate};
+    ghost use Rattle.surf_kinds.specs.Keys.{from, RiseStrictly};
     ghost use Rattle.border.specs.Messages.{replay_one};
     ghost use Rattle.border.specs.Stacked.{stack_of};
 
@@ -92,10 +99,7 @@ impl Stacks {
     {
         let mut stacks = Vec::new(alloc);
         for _ in 0..regions {
-            match stacks.push(Vec::new(alloc)) {
-                Ok(()) => {}
-                Err(_) => return Err(NoMemory),
-            }
+            stacks.push(Vec::new(alloc))?;
         }
         Ok(Stacks { stacks, spare: 0 })
     }
@@ -111,6 +115,13 @@ impl Stacks {
         make_room(self.stacks.as_mut_slice(), more)?;
         self.spare = more;
         Ok(())
+    }
+
+    /// Forgets, in each stack, the events below a key. Takes no memory.
+    pub fn forget_below(&mut self, key: Key)
+        ensures { self.new ≡ record { stacks = map (from key) self.old.stacks; spare = self.old.spare } }
+    {
+        forget_each(self.stacks.as_mut_slice(), key);
     }
 
     /// Replays a message of a sender on the sender's stack, and uses one of the spare. Takes no memory.

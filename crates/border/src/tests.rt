@@ -10,6 +10,12 @@ fn needs_send<T: Send>(value: T) -> T
     value
 }
 
+fn needs_both<T: Send + Sync>(value: T) -> T
+    ensures { result ≡ value }
+{
+    value
+}
+
 fn event(time: u64, place: u64) -> Event
     ensures { result ≡ record { time = time; place = record { 0 = place }; channel = 2 } }
 {
@@ -74,7 +80,7 @@ fn a_cut_removes_from_a_key_on(rt: HostRuntime) -> Result<(), Fail> {
 
 #[test]
 fn messages_build_the_stack_of_their_sender(rt: HostRuntime) -> Result<(), Fail> {
-    let mut stacks = needs_send(Stacks::new(rt.alloc(), 2)?);
+    let mut stacks = needs_both(Stacks::new(rt.alloc(), 2)?);
     stacks.reserve(5)?;
     stacks.replay(0, Op::Put(event(1, 8)));
     stacks.replay(0, Op::Put(event(3, 2)));
@@ -84,6 +90,9 @@ fn messages_build_the_stack_of_their_sender(rt: HostRuntime) -> Result<(), Fail>
     assert_eq!(rt; stacks.of(0), [event(1, 8), event(2, 10)].as_slice());
     stacks.replay(0, Op::Back(key(1, 9)));
     assert_eq!(rt; stacks.of(0), [event(1, 8)].as_slice());
+    assert_eq!(rt; stacks.of(1), [event(7, 7)].as_slice());
+    stacks.forget_below(key(1, 9));
+    assert_eq!(rt; stacks.of(0), [].as_slice());
     assert_eq!(rt; stacks.of(1), [event(7, 7)].as_slice());
     Ok(())
 }

@@ -1,5 +1,6 @@
 -- Each line is formed.
 use Rattle.std.proofs.Common.{◌≡◌, ℕ, Bool, true, false, not, ◌&&◌, ◌==◌, List, [], ◌∷◌, length, Option, Some, None, refl, if◌then◌else◌}
+use Rattle.std.proofs.lemmas.Bool.{and_parts}
 use Rattle.std.specs.Prelude.{codes}
 use Rattle.std.specs.List.{list_all}
 use Rattle.std.specs.Str.{bytes_eq}
@@ -8,9 +9,8 @@ use Rattle.surf_text.specs.Cuts.{cut_at, words_of}
 use Rattle.circuit_text.specs.declared.kinds.GateOp.{GateOp}
 use Rattle.circuit_text.specs.Values.{has_two}
 use Rattle.circuit_text.specs.Names.{Name, is_name, are_names}
-use Rattle.circuit_text.specs.Lines.{Inputs, Outputs, OneGate, TwoGate, Formless, op_of, one_operand, two_operands, gate_of, plain_of, names_or, sort_by, said_in, sort_of}
+use Rattle.circuit_text.specs.Lines.{Inputs, Outputs, OneGate, TwoGate, Formless, op_of, one_operand, two_operands, gate_of, plain_of, names_or, sort_by, bare_line, sort_of}
 use Rattle.circuit_text.specs.Formed.{IsFormed}
-use Rattle.circuit_text.proofs.NameTexts.{both}
 
 one_formed : (name a : Name) (op : GateOp) (b : Bool) → has_two op ≡ b → (c d : Bool) → IsFormed (if c && (d && not b) then OneGate name op a else Formless)
 one_formed name a op true is true true = tt
@@ -43,11 +43,11 @@ gate_line name (op ∷ a ∷ b ∷ []) = two_line name a b (op_of op)
 gate_line name (op ∷ a ∷ b ∷ c ∷ words) = tt
 
 inputs_line : (names : List Name) (b : Bool) → are_names names ≡ b → IsFormed (if b then Inputs names else Formless)
-inputs_line names true h = (both (not (length names == 0)) (list_all is_name names) h).1
+inputs_line names true h = (and_parts (not (length names == 0)) (list_all is_name names) h).1
 inputs_line names false h = tt
 
 outputs_line : (names : List Name) (b : Bool) → are_names names ≡ b → IsFormed (if b then Outputs names else Formless)
-outputs_line names true h = (both (not (length names == 0)) (list_all is_name names) h).1
+outputs_line names true h = (and_parts (not (length names == 0)) (list_all is_name names) h).1
 outputs_line names false h = tt
 
 by_word : (names : List Name) (b c : Bool) → IsFormed (if b then names_or Inputs names else (if c then names_or Outputs names else Formless))
@@ -64,4 +64,4 @@ by_cut text (Some p) = gate_line (trimmed p.0) (words_of p.1)
 by_cut text None = plain_line (words_of text)
 
 pub line_formed : (line : List ℕ) → IsFormed (sort_of line)
-line_formed line = by_cut (said_in line) (cut_at 61 (said_in line))
+line_formed line = by_cut (bare_line line) (cut_at 61 (bare_line line))

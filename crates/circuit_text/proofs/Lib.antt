@@ -1,12 +1,10 @@
 pub mod NetValues
-pub mod NameLists
 pub mod Counts
 pub mod NameTexts
-pub mod WordCuts
 pub mod Grows
 pub mod Runs
 pub mod FormedLines
-pub mod Laws
+pub mod Taken
 pub mod Known
 pub mod Joined
 pub mod Lines

@@ -4,12 +4,12 @@ use Rattle.std.specs.Prelude.{codes}
 use Rattle.std.specs.List.{slice_split, onto_first, sum_by}
 use Rattle.std.specs.Str.{bytes_eq}
 use Rattle.std.proofs.lemmas.List.Sums.{sum_by-cons}
-use Rattle.surf_text.specs.Lines.{lines_of, is_blank, trim_front, trim_back, before_kept, trimmed}
+use Rattle.surf_text.specs.Lines.{lines_of, is_blank, trim_front, trim_back, onto_trimmed, trimmed}
 use Rattle.surf_text.specs.Cuts.{with_front, cut_at, is_word, words_of}
 use Rattle.circuit_text.specs.declared.kinds.GateOp.{GateOp}
 use Rattle.circuit_text.specs.Values.{has_two}
 use Rattle.circuit_text.specs.Names.{Name, is_name, are_names}
-use Rattle.circuit_text.specs.Lines.{Inputs, Outputs, OneGate, TwoGate, Formless, op_of, one_operand, two_operands, gate_of, plain_of, names_or, sort_by, before_comment, said_in, sort_of}
+use Rattle.circuit_text.specs.Lines.{Inputs, Outputs, OneGate, TwoGate, Formless, op_of, one_operand, two_operands, gate_of, plain_of, names_or, sort_by, before_comment, bare_line, sort_of}
 use Rattle.circuit_text.specs.Circuits.{puts_out}
 
 -- Lines, and what is cut from one
@@ -35,7 +35,7 @@ trim_front_short : (cs : List ℕ) → length (trim_front cs) ≤ length cs
 trim_front_short [] = omega arith
 trim_front_short (c ∷ cs) = front_short c cs (trim_front_short cs)
 
-kept_short : (c : ℕ) (ds : List ℕ) → length (before_kept c ds) ≤ suc (length ds)
+kept_short : (c : ℕ) (ds : List ℕ) → length (onto_trimmed c ds) ≤ suc (length ds)
 kept_short c [] = elim (is_blank c) as (λ t. length (cond t [] (c ∷ [])) ≤ 1) [ true ↦ omega arith | false ↦ omega arith ]
 kept_short c (d ∷ ds) = omega arith
 
@@ -66,8 +66,8 @@ before_short : (line : List ℕ) (o : Option (List ℕ × List ℕ)) → IsWithi
 before_short line None h = omega arith
 before_short line (Some p) h = h
 
-said_short : (line : List ℕ) → length (said_in line) ≤ length line
-said_short line = omega (arith, trimmed_short (before_comment line (cut_at 35 line)), before_short line (cut_at 35 line) (cut_within 35 line))
+bare_short : (line : List ℕ) → length (bare_line line) ≤ length line
+bare_short line = omega (arith, trimmed_short (before_comment line (cut_at 35 line)), before_short line (cut_at 35 line) (cut_within 35 line))
 
 -- Words
 
@@ -139,4 +139,4 @@ by_cut text (Some p) = omega (arith, gate_none (trimmed p.0) (words_of p.1))
 
 -- a line names no more outputs than it has bytes
 pub outputs_few : (line : List ℕ) → length (puts_out (sort_of line)) ≤ length line
-outputs_few line = omega (arith, by_cut (said_in line) (cut_at 61 (said_in line)), said_short line)
+outputs_few line = omega (arith, by_cut (bare_line line) (cut_at 61 (bare_line line)), bare_short line)

@@ -10,7 +10,8 @@ use Rattle.circuit_text.specs.declared.kinds.Net.TheVariants as net
 use Rattle.circuit_text.specs.declared.fault.CircuitKind.{CircuitKind}
 use Rattle.circuit_text.specs.declared.fault.CircuitKind.TheVariants.{BadLine, UnknownNet, NetTwice, NetLater, NoOutput, TooManyNets}
 use Rattle.circuit_text.specs.declared.fault.CircuitFault.{CircuitFault}
-use Rattle.circuit_text.specs.Names.{Name, is_in, place_of}
+use Rattle.species.specs.Texts.{is_in, index_of}
+use Rattle.circuit_text.specs.Names.{Name}
 use Rattle.circuit_text.specs.Lines.{LineSort, Blank, Inputs, Outputs, OneGate, TwoGate, Formless, sort_of}
 use Rattle.circuit_text.specs.Values.{input_count}
 
@@ -57,8 +58,8 @@ abbrev pub nets_in : List Name → List Net → LineSort → List Net
 nets_in names nets Blank = []
 nets_in names nets (Inputs more) = inputs_from (input_count nets) more
 nets_in names nets (Outputs more) = []
-nets_in names nets (OneGate name op a) = net.Gate op (place_of names a) None ∷ []
-nets_in names nets (TwoGate name op a b) = net.Gate op (place_of names a) (Some (place_of names b)) ∷ []
+nets_in names nets (OneGate name op a) = net.Gate op (index_of names a) None ∷ []
+nets_in names nets (TwoGate name op a b) = net.Gate op (index_of names a) (Some (index_of names b)) ∷ []
 nets_in names nets Formless = []
 
 abbrev pub nets_of : List LineSort → List Net
@@ -111,7 +112,7 @@ abbrev pub circuit_of : List LineSort → NetList
 circuit_of lines = record {
   names = defined lines;
   nets = nets_of lines;
-  outputs = map (place_of (defined lines)) (put_out lines);
+  outputs = map (index_of (defined lines)) (put_out lines);
 }
 
 abbrev pub fault_at : ℕ → CircuitKind → CircuitFault

@@ -6,3 +6,4 @@ pub mod Props
 pub mod Seen
 pub mod Steps
 pub mod Formed
+pub mod Faults

@@ -66,9 +66,9 @@ before_comment line None = line
 before_comment line (Some p) = p.0
 
 -- a line without its comment, which begins with # (35), and without blanks at the ends
-abbrev pub said_in : List ℕ → List ℕ
-said_in line = trimmed (before_comment line (cut_at 35 line))
+abbrev pub bare_line : List ℕ → List ℕ
+bare_line line = trimmed (before_comment line (cut_at 35 line))
 
 -- what a line is
 abbrev pub sort_of : List ℕ → LineSort
-sort_of line = sort_by (said_in line) (cut_at 61 (said_in line))
+sort_of line = sort_by (bare_line line) (cut_at 61 (bare_line line))

@@ -6,8 +6,8 @@ ghost use Rattle.std.specs.List.{range_with_len};
 ghost use Rattle.circuit_text.specs.Circuits.{NetList};
 
 use crate::kinds::{GateOp, Net};
-use crate::names::NameSet;
 use crate::nets::Nets;
+use species::Texts;
 use std::alloc::Global;
 use std::marker::Model;
 use surf_kinds::NoMemory;
@@ -15,7 +15,7 @@ use surf_kinds::NoMemory;
 /// A circuit: its nets with their names, in the order in which they are defined, and the nets that are outputs.
 #[derive(Drop)]
 pub struct Circuit {
-    names: NameSet,
+    names: Texts,
     nets: Nets,
     gates: Vec<u32>,
     outputs: Vec<u32>,
@@ -32,7 +32,7 @@ impl Model for Circuit {
 
     ghost view = { λ c. record { names = c.names; nets = c.nets; outputs = c.outputs.items } };
 
-    ghost invariant = { λ c. (length c.names ≡ length c.nets) × (length c.outputs.items < 2 ^ 32) × (length c.gates.items ≤ 65536) × (c.gates.items ≡ gates_of c.nets) };
+    ghost invariant = { λ c. (length c.names ≡ length c.nets) × (1 ≤ length c.outputs.items) × (length c.outputs.items < 2 ^ 32) × (length c.gates.items ≤ 65536) × (c.gates.items ≡ gates_of c.nets) };
 }
 
 fn operate(op: GateOp, d: bool, e: bool) -> bool
@@ -72,20 +72,19 @@ fn values_of(alloc: Global, nets: &[Net], inputs: &[bool]) -> Result<Vec<bool>, 
     let mut known = Vec::new(alloc);
     for net in nets {
         let value = net_value(inputs, &known, *net);
-        let Ok(()) = known.push(value) else {
-            return Err(NoMemory);
-        };
+        known.push(value)?;
     }
     Ok(known)
 }
 
 impl Circuit {
     /// The circuit of these parts.
-    pub(crate) fn of(names: NameSet, nets: Nets, gates: Vec<u32>, outputs: Vec<u32>) -> Circuit
+    pub(crate) fn of(names: Texts, nets: Nets, gates: Vec<u32>, outputs: Vec<u32>) -> Circuit
         requires names { length names ≡ length nets }
         requires gates { gates.items ≡ gates_of nets }
         requires few { length gates.items ≤ 65536 }
         requires outputs { (i : ℕ) → i < length outputs.items → get_or outputs.items i 0 < length nets }
+        requires some { 1 ≤ length outputs.items }
         requires size { length outputs.items < 2 ^ 32 }
         ensures { result ≡ record { names = names; nets = nets; outputs = outputs.items } }
     {
@@ -102,10 +101,16 @@ impl Circuit {
         ensures count { result ≡ length self.now.nets }
         ensures names { result ≡ length self.now.names }
         ensures at_most { result ≤ 65536 }
+    {
+        self.nets.count()
+    }
+
+    /// Each net stands behind its operands, and each input has a number below the count of inputs.
+    pub(crate) fn is_ordered(&self)
         ensures nets { AreNets self.now.nets }
         ensures inputs { AreInputsBelow (input_count self.now.nets) self.now.nets }
     {
-        self.nets.count()
+        self.nets.as_slice();
     }
 
     /// The net with a number. The operands of a gate are nets with lower numbers.
@@ -126,9 +131,10 @@ impl Circuit {
         self.nets.input_count()
     }
 
-    /// How many outputs there are.
+    /// How many outputs there are, at least one.
     pub fn output_count(&self) -> u32
         ensures count { result ≡ length self.now.outputs }
+        ensures at_least { 1 ≤ result }
         ensures within { (i : ℕ) → i < result → get_or self.now.outputs i 0 < length self.now.nets }
     {
         self.outputs.len() as u32
@@ -148,7 +154,7 @@ impl Circuit {
         requires { n < length self.now.nets }
         ensures { slice_get self.now.names n ≡ Some result.now }
     {
-        self.names.name(n as usize)
+        self.names.text(n as usize).as_bytes()
     }
 
     /// How many of the nets are gates.

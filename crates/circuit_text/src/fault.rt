@@ -1,5 +1,7 @@
 //! What is wrong with a circuit text.
 
+ghost use Rattle.std.specs.Prelude.{◌≡◌};
+
 /// The kinds of faults.
 #[derive(Clone, Copy, Debug, PartialEq, Eq)]
 pub enum CircuitKind {
@@ -15,6 +17,24 @@ pub enum CircuitKind {
     NoOutput,
     /// 65,536 nets are defined before.
     TooManyNets,
+}
+
+impl CircuitKind {
+    ghost use Rattle.circuit_text.specs.Faults.{kind_name};
+
+    /// The name of the kind, as messages show it.
+    pub fn name(self) -> &'static str
+        ensures { result.now ≡ kind_name self }
+    {
+        match self {
+            CircuitKind::BadLine => "BadLine",
+            CircuitKind::UnknownNet => "UnknownNet",
+            CircuitKind::NetTwice => "NetTwice",
+            CircuitKind::NetLater => "NetLater",
+            CircuitKind::NoOutput => "NoOutput",
+            CircuitKind::TooManyNets => "TooManyNets",
+        }
+    }
 }
 
 /// The first fault of a circuit text.

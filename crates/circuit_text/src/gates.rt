@@ -16,9 +16,7 @@ pub(crate) fn gates_of(alloc: Global, nets: &[Net]) -> Result<Vec<u32>, NoMemory
     let mut number = 0;
     for net in nets {
         if let Net::Gate { .. } = net {
-            let Ok(()) = gates.push(number) else {
-                return Err(NoMemory);
-            };
+            gates.push(number)?;
         }
         number += 1;
     }

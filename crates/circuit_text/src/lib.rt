@@ -8,21 +8,20 @@
 //! The text is read twice: first for the names that its lines define, since an operand or an output may be defined
 //! below, and then line by line.
 //!
-//! The crate stands on `surf_text` for lines and blanks, on `indexmap` for the table of names, and on `surf_kinds`.
+//! The crate stands on `surf_text` for lines and words, on `species` for the table of names, and on `surf_kinds`.
 #![tactic(auto)]
 
-mod all;
 mod circuit;
+mod defined;
 mod fault;
 mod gates;
-mod kept;
 mod kinds;
-mod names;
+pub mod laws;
 mod nets;
 mod outputs;
+mod reader;
 mod reading;
 mod sort;
-mod state;
 mod words;
 
 pub use circuit::Circuit;

@@ -49,8 +49,6 @@ impl Nets {
     pub(crate) fn count(&self) -> u32
         ensures count { result ≡ length self.now }
         ensures at_most { result ≤ 65536 }
-        ensures nets { AreNets self.now }
-        ensures inputs { AreInputsBelow (input_count self.now) self.now }
     {
         self.nets.len() as u32
     }
@@ -78,9 +76,7 @@ impl Nets {
         ensures err { OnErr result (self.new ≡ self.old) }
     {
         let number = self.inputs;
-        let Ok(()) = self.nets.push(Net::Input { number }) else {
-            return Err(NoMemory);
-        };
+        self.nets.push(Net::Input { number })?;
         self.inputs = number + 1;
         Ok(())
     }
@@ -93,9 +89,7 @@ impl Nets {
         ensures ok { OnOk result (self.new ≡ self.old ++ net.Gate op a b ∷ []) }
         ensures err { OnErr result (self.new ≡ self.old) }
     {
-        match self.nets.push(Net::Gate { op, a, b }) {
-            Ok(()) => Ok(()),
-            Err(_) => Err(NoMemory),
-        }
+        self.nets.push(Net::Gate { op, a, b })?;
+        Ok(())
     }
 }

@@ -4,13 +4,13 @@ ghost use Rattle.std.specs.Prelude.{◌≡◌, not, Some, None, codes, if◌then
 ghost use Rattle.std.specs.Str.{bytes_eq};
 ghost use Rattle.surf_text.specs.Cuts.{words_of};
 ghost use Rattle.circuit_text.specs.Values.{has_two};
-ghost use Rattle.circuit_text.specs.Lines.{op_of, one_operand, two_operands, gate_of, plain_of, said_in, sort_of};
+ghost use Rattle.circuit_text.specs.Lines.{op_of, one_operand, two_operands, gate_of, plain_of, bare_line, sort_of};
 ghost use Rattle.circuit_text.specs.Seen.{seen};
 ghost use Rattle.circuit_text.specs.Formed.{IsFormed};
 
 use crate::kinds::GateOp;
-use crate::words::{Words, are_names, is_word, name_text};
-use surf_text::{cut, trim};
+use crate::words::{are_names, is_word, name_text};
+use surf_text::{Words, cut, trim};
 
 /// What a line is. The names of inputs and outputs are the words of a text.
 #[derive(Clone, Copy)]
@@ -146,8 +146,8 @@ fn plain(text: &[u8]) -> Sort<'_>
 }
 
 /// A line without its comment and without blanks at the ends.
-fn said_in(line: &[u8]) -> &[u8]
-    ensures { result.now ≡ said_in line.now }
+fn bare_line(line: &[u8]) -> &[u8]
+    ensures { result.now ≡ bare_line line.now }
 {
     match cut(line, b'#') {
         Some((front, _)) => trim(front),
@@ -161,7 +161,7 @@ pub(crate) fn sort_line(line: &[u8]) -> Sort<'_>
     ensures sort { seen result ≡ sort_of line.now }
     ensures formed { IsFormed (seen result) }
 {
-    let text = said_in(line);
+    let text = bare_line(line);
     match cut(text, b'=') {
         Some((name, rest)) => gate(trim(name), rest),
         None => plain(text),

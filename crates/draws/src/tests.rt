@@ -29,16 +29,13 @@ fn the_key_is_the_seed_least_byte_first(rt: HostRuntime) {
     assert_eq!(rt; key_of_seed(7), key);
 }
 
-// Many threads may draw from one Drawer.
-#[test]
-fn drawers_are_shared(rt: HostRuntime) {
-    let seven = Drawer::new(7);
-    assert_eq!(rt;
-        shared(&seven).draw(Place(5), 1, 3),
-        17_955_294_034_719_033_957
-    );
+fn needs_both<T: Send + Sync>(value: T) -> T {
+    value
 }
 
-fn shared<T: Sync>(value: &T) -> &T {
-    value
+// Many threads may draw from one Drawer, and it may go to another thread.
+#[test]
+fn drawers_are_shared(rt: HostRuntime) {
+    let seven = needs_both(Drawer::new(7));
+    assert_eq!(rt; seven.draw(Place(5), 1, 3), 17_955_294_034_719_033_957);
 }

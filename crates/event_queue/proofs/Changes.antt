@@ -4,7 +4,7 @@ use mathlib.Core.Logic.{⊎_elim}
 use Rattle.std.proofs.lemmas.List.{same_lists, length-set, get_or_append_left, get_or_past, get_or-take, length-take-le}
 use Rattle.std.proofs.lemmas.Bool.{cases_lt}
 use Rattle.event_queue.specs.declared.entry.Entry.{Entry}
-use Rattle.event_queue.specs.Heap.{entry_at, nothing, among, kept_entries, nowhere, filled, told, AreInverse, IsHeap, IsHeapBut}
+use Rattle.event_queue.specs.Heap.{entry_at, nothing, among, kept_entries, nowhere, filled, located, AreInverse, IsHeap, IsHeapBut}
 use Rattle.event_queue.proofs.Order.{same_or, parent-less}
 use Rattle.event_queue.proofs.Orders.{but_at}
 use Rattle.event_queue.proofs.Room.{room}
@@ -223,7 +223,7 @@ module _ (h : List Entry) (p : List ℕ) (H : List Entry) (P : List ℕ) (m o at
       (removed_heap heap).others j jp jn (λ z. absurd (omega (arith, z, jn, last))) (λ z. absurd (omega (arith, z, jn, last, less)))
 
 -- an entry that is written in the place of that of its offset
-pub replaced : (h : List Entry) (p : List ℕ) (at : ℕ) (e : Entry) → AreInverse h p → e.offset < length p → slice_index p e.offset ≡ at → at < length h → Written h p (filled h at e) (told p at e) (length h) (length h) at e
+pub replaced : (h : List Entry) (p : List ℕ) (at : ℕ) (e : Entry) → AreInverse h p → e.offset < length p → slice_index p e.offset ≡ at → at < length h → Written h p (filled h at e) (located p at e) (length h) (length h) at e
 replaced h p at e inv within is al = record {
   inverse = inv;
   was_long = refl;
@@ -244,7 +244,7 @@ replaced h p at e inv within is al = record {
 
 -- one that is written last, where its offset had none
 pub added : (h : List Entry) (p : List ℕ) (e : Entry) → AreInverse h p → e.offset < length p → length h ≤ slice_index p e.offset
-    → Written h p (filled (h ++ e ∷ []) (length h) e) (told p (length h) e) (length h) (length h + 1) (length h) e
+    → Written h p (filled (h ++ e ∷ []) (length h) e) (located p (length h) e) (length h) (length h + 1) (length h) e
 added h p e inv within out = record {
   inverse = inv;
   was_long = refl;
@@ -273,7 +273,7 @@ added h p e inv within out = record {
 
 -- an offset whose entry was not the last: the last one is to be written in its place
 pub closed_up : (h : List Entry) (p : List ℕ) (m o at : ℕ) (e : Entry) → AreInverse h p → length h ≡ m + 1 → o < length p → slice_index p o ≡ at → at < m → e ≡ entry_at h m
-    → Removed h p (filled (take m h) at e) (told (set p o nowhere) at e) m o at
+    → Removed h p (filled (take m h) at e) (located (set p o nowhere) at e) m o at
 closed_up h p m o at e inv long ol is al last = record {
   inverse = inv;
   was_long = long;
@@ -285,7 +285,7 @@ closed_up h p m o at e inv long ol is al last = record {
   here = λ _. get_or-set_same (take m h) at e nothing (omega (arith, short, al)) ∙ last;
   others = λ i im ne. get_or-set_other (take m h) at i e nothing ne ∙ get_or-take m h i nothing im;
   gone = get_or-set_other (set p o nowhere) e.offset o at 0 (λ z. apart (sym z)) ∙ get_or-set_same p o nowhere 0 ol;
-  came = λ _. ap (λ (y : Entry). slice_index (told (set p o nowhere) at e) y.offset) (sym last) ∙ get_or-set_same (set p o nowhere) e.offset at 0 (omega (arith, e_within, length-set p o nowhere));
+  came = λ _. ap (λ (y : Entry). slice_index (located (set p o nowhere) at e) y.offset) (sym last) ∙ get_or-set_same (set p o nowhere) e.offset at 0 (omega (arith, e_within, length-set p o nowhere));
   told_others = λ k nk nl. get_or-set_other (set p o nowhere) e.offset k at 0 (λ z. nl (z ∙ ap (λ (y : Entry). y.offset) last)) ∙ get_or-set_other p o k nowhere 0 nk;
 }
   where

@@ -93,10 +93,6 @@ module _ {A : Type 0} (lt : A → A → Bool) (o : IsStrictWeakOrder lt) where
       let kid = others j jp jn ne (λ z. ne-less (parent i) i li (sym pj ∙ z)) in
       moved (f j) (g j) (f i) (g (parent i)) (sw.2 j ne nj) sw.1 (o.chain _ _ _ (moved (f j) (f j) (f (parent j)) (f (parent i)) refl (ap f (sym pj)) kid) (o.one_way _ _ before)))
 
-  -- an entry that has to go up is after none of those below it
-  pub above_start : (f : ℕ → A) (n i : ℕ) → Over lt f n i → 0 < i → lt (f i) (f (parent i)) ≡ true → (j : ℕ) → 0 < j → j < n → parent j ≡ i → lt (f j) (f i) ≡ false
-  above_start f n i over pos before j jp jn pj = o.chain _ _ _ (over j jp jn pos pj) (o.one_way _ _ before)
-
   -- the entry at i went down to c, the least of those below it
   pub sink_step : (f g : ℕ → A) (n i c : ℕ) → Swapped f g i c → parent c ≡ i → 0 < c → c < n → Others lt f n i → Over lt f n i
       → lt (f c) (f i) ≡ true → ((s : ℕ) → 0 < s → s < n → parent s ≡ i → lt (f s) (f c) ≡ false)

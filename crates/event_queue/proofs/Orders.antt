@@ -1,47 +1,29 @@
 -- The order of entries, and the steps of the heap in this order.
-use Rattle.std.proofs.Common.{◌≡◌, ℕ, ◌+◌, ◌*◌, ◌<◌, ◌≤◌, Bool, true, false, ltb, eqb, ◌||◌, ◌&&◌, List, length, ap, ◌∙◌, arith, get_or-set_other}
+use Rattle.std.proofs.Common.{◌≡◌, ℕ, ◌+◌, ◌*◌, ◌<◌, ◌≤◌, true, false, List, length, ap, ◌∙◌, arith, get_or-set_other}
 use Rattle.std.specs.Cmp.{IsStrictWeakOrder}
 use Rattle.std.proofs.lemmas.Bool.Decides.{nat_tests}
 use Rattle.std.proofs.lemmas.List.Edits.{Swapped}
-use Rattle.surf_kinds.specs.Keys.{is_before}
+use Rattle.surf_kinds.specs.Keys.{is_earlier, key_of}
+use Rattle.surf_kinds.specs.declared.event.Key.{Key}
 use Rattle.surf_kinds.specs.declared.event.Event.{Event}
+use Rattle.surf_kinds.proofs.Order.{lt_to_le, le_le, upto_both}
 use Rattle.event_queue.specs.declared.entry.Entry.{Entry}
-use Rattle.event_queue.specs.Heap.{precedes, event_of, entry_at, nothing, parent, IsHeap, IsHeapBut, IsBelowParent, IsAboveOthers, filled}
+use Rattle.event_queue.specs.Heap.{precedes, offset_key, event_of, entry_at, nothing, parent, IsHeap, IsHeapBut, IsBelowParent, IsAboveOthers, filled}
 use Rattle.event_queue.proofs.Order.{rise_step, rise_above, sink_step, sink_done, kids_after, heap_but, heap_top, ne-more, same_or}
-
-abbrev before : ℕ → ℕ → ℕ → ℕ → Bool
-before t o u p = ltb t u || (eqb t u && ltb o p)
-
-before_one_way : (t o u p : ℕ) → before t o u p ≡ true → before u p t o ≡ false
-before_one_way t o u p h = grind (arith, nat_tests)
-
-before_chain : (t o u p v q : ℕ) → before t o u p ≡ false → before u p v q ≡ false → before t o v q ≡ false
-before_chain t o u p v q h k = grind (arith, nat_tests)
 
 pub precedes_order : IsStrictWeakOrder precedes
 precedes_order = record {
-  one_way = λ a b h. before_one_way a.time a.offset b.time b.offset h;
-  chain = λ a b c h k. before_chain a.time a.offset b.time b.offset c.time c.offset h k;
+  one_way = λ a b h. lt_to_le (offset_key a) (offset_key b) h;
+  chain = λ a b c h k. le_le (offset_key c) (offset_key b) (offset_key a) k h;
 }
 
-before_added : (first t o u p : ℕ) → before t (first + o) u (first + p) ≡ before t o u p
-before_added first t o u p = grind (arith, nat_tests)
-
-pub is_before-event_of : (first : ℕ) (a b : Entry) → is_before (event_of first a) (event_of first b) ≡ precedes a b
-is_before-event_of first a b = before_added first a.time a.offset b.time b.offset
-
-is_before_one_way : (e f : Event) → is_before e f ≡ true → is_before f e ≡ false
-is_before_one_way e f h = before_one_way e.time e.place.0 f.time f.place.0 h
-
-pub is_before_chain : (e f g : Event) → is_before e f ≡ false → is_before f g ≡ false → is_before e g ≡ false
-is_before_chain e f g h k = before_chain e.time e.place.0 f.time f.place.0 g.time g.place.0 h k
-
-same_key : (t o u p : ℕ) → before t o u p ≡ false → before u p t o ≡ false → o ≡ p
-same_key t o u p h k = grind (arith, nat_tests)
+-- the order of entries is that of their events
+pub is_earlier-event_of : (first : ℕ) (a b : Entry) → is_earlier (event_of first a) (event_of first b) ≡ precedes a b
+is_earlier-event_of first a b = grind (arith, nat_tests)
 
 -- neither is before the other: they are at one place
-pub same_place : (e f : Event) → is_before e f ≡ false → is_before f e ≡ false → e.place.0 ≡ f.place.0
-same_place e f h k = same_key e.time e.place.0 f.time f.place.0 h k
+pub same_place : (e f : Event) → is_earlier e f ≡ false → is_earlier f e ≡ false → e.place.0 ≡ f.place.0
+same_place e f h k = ap (λ (j : Key). j.place.0) (upto_both (key_of e) (key_of f) k h)
 
 abbrev pub Moved : List Entry → List Entry → ℕ → ℕ → Type 0
 Moved xs ys i j = Swapped (entry_at xs) (entry_at ys) i j

@@ -4,7 +4,7 @@ use mathlib.Core.Logic.{⊎_elim}
 use Rattle.std.proofs.lemmas.List.{same_lists, get_or-map, length-map, length-set}
 use Rattle.std.proofs.lemmas.Bool.{ltb-true, ltb-false, lt-ltb, le-ltb, cases_lt}
 use Rattle.event_queue.specs.declared.entry.Entry.{Entry}
-use Rattle.event_queue.specs.Heap.{entry_at, nothing, among, kept_entries, kept_with, filled, told, nowhere, precedes, AreInverse}
+use Rattle.event_queue.specs.Heap.{entry_at, nothing, among, kept_entries, kept_with, filled, located, nowhere, precedes, AreInverse}
 use Rattle.event_queue.proofs.Order.{same_or}
 use Rattle.event_queue.proofs.Orders.{Moved}
 
@@ -94,13 +94,13 @@ kept_after_swap h h' p p' n i j sw inv inv' long long' same il jl = same_lists _
         kl = let e = same in let f = l' in omega arith
 
 -- the offset of the entry for a hole
-pub hole_offset : (h : List Entry) (p : List ℕ) (at : ℕ) (e : Entry) → AreInverse (filled h at e) (told p at e) → at < length h → e.offset < length p
+pub hole_offset : (h : List Entry) (p : List ℕ) (at : ℕ) (e : Entry) → AreInverse (filled h at e) (located p at e) → at < length h → e.offset < length p
 hole_offset h p at e inv al =
     let z = inv.offset_within at (let l = length-set h at e in omega arith) in
     omega (arith, ap (λ (y : Entry). y.offset) (get_or-set_same h at e nothing al), length-set p e.offset at, z)
 
 -- a hole at `at` with e for it, and the entry x at `to` that moves into the hole
-module _ (h : List Entry) (p : List ℕ) (at to : ℕ) (e x : Entry) (inv : AreInverse (filled h at e) (told p at e)) (al : at < length h) (tl : to < length h) (ne : to ≡ at → ⊥) (is : x ≡ entry_at h to) where
+module _ (h : List Entry) (p : List ℕ) (at to : ℕ) (e x : Entry) (inv : AreInverse (filled h at e) (located p at e)) (al : at < length h) (tl : to < length h) (ne : to ≡ at → ⊥) (is : x ≡ entry_at h to) where
   before_at : entry_at (filled h at e) at ≡ e
   before_at = get_or-set_same h at e nothing al
 
@@ -131,13 +131,13 @@ module _ (h : List Entry) (p : List ℕ) (at to : ℕ) (e x : Entry) (inv : AreI
   pub long_after : length (filled (filled h at x) to e) ≡ length h
   long_after = length-set (filled h at x) to e ∙ length-set h at x
 
-  wide : length (told p at e) ≡ length p
+  wide : length (located p at e) ≡ length p
   wide = length-set p e.offset at
 
-  wide_after : length (told (told p at x) to e) ≡ length p
-  wide_after = length-set (told p at x) e.offset to ∙ length-set p x.offset at
+  wide_after : length (located (located p at x) to e) ≡ length p
+  wide_after = length-set (located p at x) e.offset to ∙ length-set p x.offset at
 
-  pub same_width : length (told (told p at x) to e) ≡ length (told p at e)
+  pub same_width : length (located (located p at x) to e) ≡ length (located p at e)
   same_width = wide_after ∙ sym wide
 
   e_within : e.offset < length p
@@ -146,62 +146,62 @@ module _ (h : List Entry) (p : List ℕ) (at to : ℕ) (e x : Entry) (inv : AreI
   x_within : x.offset < length p
   x_within = let z = inv.offset_within to (omega (arith, long)) in omega (arith, ap (λ (y : Entry). y.offset) before_to, wide, z)
 
-  told_e : slice_index (told p at e) e.offset ≡ at
+  told_e : slice_index (located p at e) e.offset ≡ at
   told_e = get_or-set_same p e.offset at 0 e_within
 
-  told_x : slice_index (told p at e) x.offset ≡ to
-  told_x = ap (λ (y : Entry). slice_index (told p at e) y.offset) (sym before_to) ∙ inv.position_of to (omega (arith, long))
+  told_x : slice_index (located p at e) x.offset ≡ to
+  told_x = ap (λ (y : Entry). slice_index (located p at e) y.offset) (sym before_to) ∙ inv.position_of to (omega (arith, long))
 
   apart : x.offset ≡ e.offset → ⊥
-  apart z = ne (sym told_x ∙ ap (slice_index (told p at e)) z ∙ told_e)
+  apart z = ne (sym told_x ∙ ap (slice_index (located p at e)) z ∙ told_e)
 
-  now_e : slice_index (told (told p at x) to e) e.offset ≡ to
-  now_e = get_or-set_same (told p at x) e.offset to 0 (let z = length-set p x.offset at in let y = e_within in omega arith)
+  now_e : slice_index (located (located p at x) to e) e.offset ≡ to
+  now_e = get_or-set_same (located p at x) e.offset to 0 (let z = length-set p x.offset at in let y = e_within in omega arith)
 
-  now_x : slice_index (told (told p at x) to e) x.offset ≡ at
-  now_x = get_or-set_other (told p at x) e.offset x.offset to 0 apart ∙ get_or-set_same p x.offset at 0 x_within
+  now_x : slice_index (located (located p at x) to e) x.offset ≡ at
+  now_x = get_or-set_other (located p at x) e.offset x.offset to 0 apart ∙ get_or-set_same p x.offset at 0 x_within
 
-  now_else : (o : ℕ) → (o ≡ e.offset → ⊥) → (o ≡ x.offset → ⊥) → slice_index (told (told p at x) to e) o ≡ slice_index (told p at e) o
-  now_else o noe nox = get_or-set_other (told p at x) e.offset o to 0 noe ∙ get_or-set_other p x.offset o at 0 nox ∙ sym (get_or-set_other p e.offset o at 0 noe)
+  now_else : (o : ℕ) → (o ≡ e.offset → ⊥) → (o ≡ x.offset → ⊥) → slice_index (located (located p at x) to e) o ≡ slice_index (located p at e) o
+  now_else o noe nox = get_or-set_other (located p at x) e.offset o to 0 noe ∙ get_or-set_other p x.offset o at 0 nox ∙ sym (get_or-set_other p e.offset o at 0 noe)
 
-  new_offset : (k : ℕ) → k < length (filled (filled h at x) to e) → (entry_at (filled (filled h at x) to e) k).offset < length (told (told p at x) to e)
+  new_offset : (k : ℕ) → k < length (filled (filled h at x) to e) → (entry_at (filled (filled h at x) to e) k).offset < length (located (located p at x) to e)
   new_offset k kl = same_or k to
       (λ kt. let z = ap (λ i. (entry_at (filled (filled h at x) to e) i).offset) kt ∙ ap (λ (y : Entry). y.offset) after_to in let w = e_within in omega (arith, wide_after, z, w))
       (λ nt. same_or k at
       (λ ka. let z = ap (λ i. (entry_at (filled (filled h at x) to e) i).offset) ka ∙ ap (λ (y : Entry). y.offset) after_at in let w = x_within in omega (arith, wide_after, z, w))
       (λ na. let z = ap (λ (y : Entry). y.offset) (after_else k na nt) in let w = inv.offset_within k (omega (arith, long, long_after, kl)) in omega (arith, wide_after, wide, z, w)))
 
-  new_position : (k : ℕ) → k < length (filled (filled h at x) to e) → slice_index (told (told p at x) to e) (entry_at (filled (filled h at x) to e) k).offset ≡ k
+  new_position : (k : ℕ) → k < length (filled (filled h at x) to e) → slice_index (located (located p at x) to e) (entry_at (filled (filled h at x) to e) k).offset ≡ k
   new_position k kl = same_or k to
-      (λ kt. ap (λ i. slice_index (told (told p at x) to e) (entry_at (filled (filled h at x) to e) i).offset) kt ∙ ap (λ (y : Entry). slice_index (told (told p at x) to e) y.offset) after_to ∙ now_e ∙ sym kt)
+      (λ kt. ap (λ i. slice_index (located (located p at x) to e) (entry_at (filled (filled h at x) to e) i).offset) kt ∙ ap (λ (y : Entry). slice_index (located (located p at x) to e) y.offset) after_to ∙ now_e ∙ sym kt)
       (λ nt. same_or k at
-      (λ ka. ap (λ i. slice_index (told (told p at x) to e) (entry_at (filled (filled h at x) to e) i).offset) ka ∙ ap (λ (y : Entry). slice_index (told (told p at x) to e) y.offset) after_at ∙ now_x ∙ sym ka)
+      (λ ka. ap (λ i. slice_index (located (located p at x) to e) (entry_at (filled (filled h at x) to e) i).offset) ka ∙ ap (λ (y : Entry). slice_index (located (located p at x) to e) y.offset) after_at ∙ now_x ∙ sym ka)
       (λ na.
-      let pos : slice_index (told p at e) (entry_at (filled h at e) k).offset ≡ k = inv.position_of k (omega (arith, long, long_after, kl)) in
-      let noe : (entry_at (filled h at e) k).offset ≡ e.offset → ⊥ = λ z. na (sym pos ∙ ap (slice_index (told p at e)) z ∙ told_e) in
-      let nox : (entry_at (filled h at e) k).offset ≡ x.offset → ⊥ = λ z. nt (sym pos ∙ ap (slice_index (told p at e)) z ∙ told_x) in
-      ap (λ (y : Entry). slice_index (told (told p at x) to e) y.offset) (after_else k na nt) ∙ now_else (entry_at (filled h at e) k).offset noe nox ∙ pos))
+      let pos : slice_index (located p at e) (entry_at (filled h at e) k).offset ≡ k = inv.position_of k (omega (arith, long, long_after, kl)) in
+      let noe : (entry_at (filled h at e) k).offset ≡ e.offset → ⊥ = λ z. na (sym pos ∙ ap (slice_index (located p at e)) z ∙ told_e) in
+      let nox : (entry_at (filled h at e) k).offset ≡ x.offset → ⊥ = λ z. nt (sym pos ∙ ap (slice_index (located p at e)) z ∙ told_x) in
+      ap (λ (y : Entry). slice_index (located (located p at x) to e) y.offset) (after_else k na nt) ∙ now_else (entry_at (filled h at e) k).offset noe nox ∙ pos))
 
-  new_entry : (o : ℕ) → o < length (told (told p at x) to e) → slice_index (told (told p at x) to e) o < length (filled (filled h at x) to e) → (entry_at (filled (filled h at x) to e) (slice_index (told (told p at x) to e) o)).offset ≡ o
+  new_entry : (o : ℕ) → o < length (located (located p at x) to e) → slice_index (located (located p at x) to e) o < length (filled (filled h at x) to e) → (entry_at (filled (filled h at x) to e) (slice_index (located (located p at x) to e) o)).offset ≡ o
   new_entry o ol pl = same_or o e.offset
-      (λ oe. ap (λ k. (entry_at (filled (filled h at x) to e) k).offset) (ap (slice_index (told (told p at x) to e)) oe ∙ now_e) ∙ ap (λ (y : Entry). y.offset) after_to ∙ sym oe)
+      (λ oe. ap (λ k. (entry_at (filled (filled h at x) to e) k).offset) (ap (slice_index (located (located p at x) to e)) oe ∙ now_e) ∙ ap (λ (y : Entry). y.offset) after_to ∙ sym oe)
       (λ noe. same_or o x.offset
-      (λ ox. ap (λ k. (entry_at (filled (filled h at x) to e) k).offset) (ap (slice_index (told (told p at x) to e)) ox ∙ now_x) ∙ ap (λ (y : Entry). y.offset) after_at ∙ sym ox)
+      (λ ox. ap (λ k. (entry_at (filled (filled h at x) to e) k).offset) (ap (slice_index (located (located p at x) to e)) ox ∙ now_x) ∙ ap (λ (y : Entry). y.offset) after_at ∙ sym ox)
       (λ nox.
       let q = now_else o noe nox in
-      let off : (entry_at (filled h at e) (slice_index (told p at e) o)).offset ≡ o = inv.offset_of o (omega (arith, wide, wide_after, ol)) (omega (arith, long, long_after, q, pl)) in
-      let na : slice_index (told p at e) o ≡ at → ⊥ = λ z. noe (sym off ∙ ap (λ k. (entry_at (filled h at e) k).offset) z ∙ ap (λ (y : Entry). y.offset) before_at) in
-      let nt : slice_index (told p at e) o ≡ to → ⊥ = λ z. nox (sym off ∙ ap (λ k. (entry_at (filled h at e) k).offset) z ∙ ap (λ (y : Entry). y.offset) before_to) in
-      ap (λ k. (entry_at (filled (filled h at x) to e) k).offset) q ∙ ap (λ (y : Entry). y.offset) (after_else (slice_index (told p at e) o) na nt) ∙ off))
+      let off : (entry_at (filled h at e) (slice_index (located p at e) o)).offset ≡ o = inv.offset_of o (omega (arith, wide, wide_after, ol)) (omega (arith, long, long_after, q, pl)) in
+      let na : slice_index (located p at e) o ≡ at → ⊥ = λ z. noe (sym off ∙ ap (λ k. (entry_at (filled h at e) k).offset) z ∙ ap (λ (y : Entry). y.offset) before_at) in
+      let nt : slice_index (located p at e) o ≡ to → ⊥ = λ z. nox (sym off ∙ ap (λ k. (entry_at (filled h at e) k).offset) z ∙ ap (λ (y : Entry). y.offset) before_to) in
+      ap (λ k. (entry_at (filled (filled h at x) to e) k).offset) q ∙ ap (λ (y : Entry). y.offset) (after_else (slice_index (located p at e) o) na nt) ∙ off))
 
-  new_absent : (o : ℕ) → o < length (told (told p at x) to e) → length (filled (filled h at x) to e) ≤ slice_index (told (told p at x) to e) o → slice_index (told (told p at x) to e) o ≡ nowhere
+  new_absent : (o : ℕ) → o < length (located (located p at x) to e) → length (filled (filled h at x) to e) ≤ slice_index (located (located p at x) to e) o → slice_index (located (located p at x) to e) o ≡ nowhere
   new_absent o ol past = same_or o e.offset
-      (λ oe. let z = ap (slice_index (told (told p at x) to e)) oe ∙ now_e in absurd (omega (arith, z, past, long_after, tl)))
+      (λ oe. let z = ap (slice_index (located (located p at x) to e)) oe ∙ now_e in absurd (omega (arith, z, past, long_after, tl)))
       (λ noe. same_or o x.offset
-      (λ ox. let z = ap (slice_index (told (told p at x) to e)) ox ∙ now_x in absurd (omega (arith, z, past, long_after, al)))
+      (λ ox. let z = ap (slice_index (located (located p at x) to e)) ox ∙ now_x in absurd (omega (arith, z, past, long_after, al)))
       (λ nox. let q = now_else o noe nox in q ∙ inv.absent o (omega (arith, wide, wide_after, ol)) (omega (arith, long, long_after, q, past))))
 
-  pub inverse_moves : AreInverse (filled (filled h at x) to e) (told (told p at x) to e)
+  pub inverse_moves : AreInverse (filled (filled h at x) to e) (located (located p at x) to e)
   inverse_moves = record {
     few = let z = inv.few in omega (arith, long, long_after, wide, wide_after, z);
     bounded = let z = inv.bounded in omega (arith, wide, wide_after, z);
@@ -211,8 +211,8 @@ module _ (h : List Entry) (p : List ℕ) (at to : ℕ) (e x : Entry) (inv : AreI
     absent = new_absent;
   }
 
-  pub kept_moves : kept_with (filled h at x) (told p at x) to e ≡ kept_with h p at e
+  pub kept_moves : kept_with (filled h at x) (located p at x) to e ≡ kept_with h p at e
   kept_moves =
       let n = length h in
-      ap (λ m. kept_entries (filled (filled h at x) to e) m (told (told p at x) to e)) (length-set h at x)
-      ∙ kept_after_swap (filled h at e) (filled (filled h at x) to e) (told p at e) (told (told p at x) to e) n at to hole_moves inv inverse_moves long long_after same_width al tl
+      ap (λ m. kept_entries (filled (filled h at x) to e) m (located (located p at x) to e)) (length-set h at x)
+      ∙ kept_after_swap (filled h at e) (filled (filled h at x) to e) (located p at e) (located (located p at x) to e) n at to hole_moves inv inverse_moves long long_after same_width al tl

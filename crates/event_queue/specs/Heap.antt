@@ -1,8 +1,10 @@
 -- The heap: entries in an order where none is before the one above it, and the position of each offset in it.
-use Rattle.std.specs.Prelude.{ℕ, ◌≡◌, ◌+◌, ◌-◌, ◌/◌, ◌<◌, ◌≤◌, ◌^◌, List, length, map, slice_index_or, slice_index, slice_set, Option, Some, None, Bool, false, nat_lt, ◌==◌, ◌&&◌, ◌||◌, if◌then◌else◌}
+use Rattle.std.specs.Prelude.{ℕ, ◌≡◌, ◌+◌, ◌-◌, ◌/◌, ◌<◌, ◌≤◌, ◌^◌, List, length, map, slice_index_or, slice_index, slice_set, Option, Some, None, Bool, false, nat_lt, if◌then◌else◌}
 use Rattle.surf_kinds.specs.declared.event.Event.{Event}
+use Rattle.surf_kinds.specs.declared.event.Key.{Key}
+use Rattle.surf_kinds.specs.Keys.{is_before}
 use Rattle.event_queue.specs.declared.entry.Entry.{Entry}
-use Rattle.event_queue.specs.Kept.{Kept}
+use Rattle.event_queue.specs.QueueView.{QueueView}
 
 -- what stands past the end of a heap
 abbrev pub nothing : Entry
@@ -12,9 +14,13 @@ nothing = record { time = 0; offset = 0; channel = 0 }
 abbrev pub entry_at : List Entry → ℕ → Entry
 entry_at heap i = slice_index_or heap i nothing
 
--- by time, then by offset
+-- an entry's key in a queue whose first place is 0; the order of these keys is that of the events' keys, wherever the
+-- first place is
+abbrev pub offset_key : Entry → Key
+offset_key e = record { time = e.time; place = record { 0 = e.offset } }
+
 abbrev pub precedes : Entry → Entry → Bool
-precedes a b = nat_lt a.time b.time || (a.time == b.time && nat_lt a.offset b.offset)
+precedes a b = is_before (offset_key a) (offset_key b)
 
 -- an entry's event, in a queue whose first place is given
 abbrev pub event_of : ℕ → Entry → Event
@@ -45,8 +51,8 @@ IsAboveOthers heap n i = (j : ℕ) → 0 < j → j < n → parent j ≡ i → pr
 abbrev pub filled : List Entry → ℕ → Entry → List Entry
 filled heap at e = slice_set heap at e
 
-abbrev pub told : List ℕ → ℕ → Entry → List ℕ
-told positions at e = slice_set positions e.offset at
+abbrev pub located : List ℕ → ℕ → Entry → List ℕ
+located positions at e = slice_set positions e.offset at
 
 -- the position of an offset that has no entry
 abbrev pub nowhere : ℕ
@@ -71,7 +77,7 @@ kept_entries heap n positions = map (among heap n) positions
 
 -- the same with an entry in the hole at a position
 abbrev pub kept_with : List Entry → List ℕ → ℕ → Entry → List (Option Entry)
-kept_with heap positions at e = kept_entries (filled heap at e) (length heap) (told positions at e)
+kept_with heap positions at e = kept_entries (filled heap at e) (length heap) (located positions at e)
 
 -- the entry's event, if there is an entry
 abbrev pub event_if : ℕ → Option Entry → Option Event
@@ -79,7 +85,7 @@ event_if first None = None
 event_if first (Some e) = Some (event_of first e)
 
 -- the queue whose first n entries are kept
-abbrev pub seen : ℕ → List Entry → ℕ → List ℕ → Kept
+abbrev pub seen : ℕ → List Entry → ℕ → List ℕ → QueueView
 seen first heap n positions = record { first = first; events = map (event_if first) (kept_entries heap n positions) }
 
 -- what is true of every queue, whose heap has room for so many entries

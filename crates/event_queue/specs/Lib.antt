@@ -1,2 +1,2 @@
 pub mod Heap
-pub mod Kept
+pub mod QueueView

@@ -5,7 +5,7 @@ ghost use Rattle.event_queue.specs.Heap.{precedes, event_of};
 
 use surf_kinds::{Event, Place};
 
-/// An event whose place is told by its distance from the queue's first place.
+/// An event whose place is given by its distance from the queue's first place.
 #[derive(Clone, Copy)]
 pub(crate) struct Entry {
     pub(crate) time: u64,

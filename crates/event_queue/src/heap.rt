@@ -4,7 +4,7 @@
 //! other, and it is written once, where the hole ends.
 
 ghost use Rattle.std.specs.Prelude.{◌≡◌, ℕ, ◌+◌, ◌*◌, ◌^◌, ◌<◌, ◌≤◌, ◌⊎◌, length, true, false};
-ghost use Rattle.event_queue.specs.Heap.{AreInverse, IsAboveOthers, IsBelowParent, IsHeap, IsHeapBut, entry_at, filled, kept_entries, kept_with, parent, precedes, told};
+ghost use Rattle.event_queue.specs.Heap.{AreInverse, IsAboveOthers, IsBelowParent, IsHeap, IsHeapBut, entry_at, filled, kept_entries, kept_with, parent, precedes, located};
 
 use crate::entry::Entry;
 
@@ -18,7 +18,7 @@ fn put(heap: &mut [Entry], positions: &mut [u32], at: usize, entry: Entry)
     requires few { length heap.old < 2 ^ 32 }
     requires offset_within { entry.offset < length positions.old }
     ensures heap { heap.new ≡ filled heap.old at entry }
-    ensures positions { positions.new ≡ told positions.old at entry }
+    ensures positions { positions.new ≡ located positions.old at entry }
 {
     heap[at] = entry;
     positions[entry.offset as usize] = at as u32;
@@ -26,12 +26,12 @@ fn put(heap: &mut [Entry], positions: &mut [u32], at: usize, entry: Entry)
 
 /// Moves the hole at `from` up until the entry above it may stand above this one, and gives its position then.
 fn rise(heap: &mut [Entry], positions: &mut [u32], from: usize, entry: Entry) -> usize
-    requires inverse { AreInverse (filled heap.old from entry) (told positions.old from entry) }
+    requires inverse { AreInverse (filled heap.old from entry) (located positions.old from entry) }
     requires from_within { from < length heap.old }
     requires heap { IsHeapBut (filled heap.old from entry) (length heap.old) from }
     requires above { IsAboveOthers (filled heap.old from entry) (length heap.old) from }
     ensures within { result < length heap.old }
-    ensures inverse { AreInverse (filled heap.new result entry) (told positions.new result entry) }
+    ensures inverse { AreInverse (filled heap.new result entry) (located positions.new result entry) }
     ensures heap { IsHeap (filled heap.new result entry) (length heap.old) }
     ensures kept { kept_with heap.new positions.new result entry ≡ kept_with heap.old positions.old from entry }
 {
@@ -94,12 +94,12 @@ fn least_child(heap: &[Entry], first: usize) -> usize
 
 /// Moves the hole at `from` down until no entry below it is before this one, and gives its position then.
 fn sink(heap: &mut [Entry], positions: &mut [u32], from: usize, entry: Entry) -> usize
-    requires inverse { AreInverse (filled heap.old from entry) (told positions.old from entry) }
+    requires inverse { AreInverse (filled heap.old from entry) (located positions.old from entry) }
     requires from_within { from < length heap.old }
     requires heap { IsHeapBut (filled heap.old from entry) (length heap.old) from }
     requires below { IsBelowParent (filled heap.old from entry) from }
     ensures within { result < length heap.old }
-    ensures inverse { AreInverse (filled heap.new result entry) (told positions.new result entry) }
+    ensures inverse { AreInverse (filled heap.new result entry) (located positions.new result entry) }
     ensures heap { IsHeap (filled heap.new result entry) (length heap.old) }
     ensures kept { kept_with heap.new positions.new result entry ≡ kept_with heap.old positions.old from entry }
 {
@@ -131,11 +131,11 @@ fn goes_up(heap: &[Entry], hole: usize, entry: Entry) -> bool
 
 /// Moves the hole to where the entry belongs, and gives its position then.
 fn hole_for(heap: &mut [Entry], positions: &mut [u32], hole: usize, entry: Entry) -> usize
-    requires inverse { AreInverse (filled heap.old hole entry) (told positions.old hole entry) }
+    requires inverse { AreInverse (filled heap.old hole entry) (located positions.old hole entry) }
     requires hole_within { hole < length heap.old }
     requires heap { IsHeapBut (filled heap.old hole entry) (length heap.old) hole }
     ensures within { result < length heap.old }
-    ensures inverse { AreInverse (filled heap.new result entry) (told positions.new result entry) }
+    ensures inverse { AreInverse (filled heap.new result entry) (located positions.new result entry) }
     ensures heap { IsHeap (filled heap.new result entry) (length heap.old) }
     ensures kept { kept_with heap.new positions.new result entry ≡ kept_with heap.old positions.old hole entry }
 {
@@ -148,7 +148,7 @@ fn hole_for(heap: &mut [Entry], positions: &mut [u32], hole: usize, entry: Entry
 
 /// Puts an entry where it belongs, in a heap that is in order but for a hole.
 pub(crate) fn settle(heap: &mut [Entry], positions: &mut [u32], hole: usize, entry: Entry)
-    requires inverse { AreInverse (filled heap.old hole entry) (told positions.old hole entry) }
+    requires inverse { AreInverse (filled heap.old hole entry) (located positions.old hole entry) }
     requires hole_within { hole < length heap.old }
     requires heap { IsHeapBut (filled heap.old hole entry) (length heap.old) hole }
     ensures inverse { AreInverse heap.new positions.new }

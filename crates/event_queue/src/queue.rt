@@ -1,7 +1,7 @@
 //! The queue of the next events.
 
 ghost use Rattle.std.specs.Prelude.{◌≡◌, ℕ, ◌+◌, ◌-◌, ◌<◌, ◌≤◌, ◌^◌, length, replicate, slice_index, slice_set, IfOk, IfSome, MatchOption, Some, None};
-ghost use Rattle.event_queue.specs.Kept.{HasPlace, IsLeast, KeepsNone, kept_at, least_among};
+ghost use Rattle.event_queue.specs.QueueView.{HasPlace, IsLeast, IsEmpty, event_at, least_among};
 ghost use Rattle.event_queue.specs.Heap.{entry_at};
 
 use crate::entry::Entry;
@@ -20,11 +20,11 @@ pub struct Queue {
 }
 
 impl Model for Queue {
-    ghost use Rattle.event_queue.specs.Kept.{Kept};
+    ghost use Rattle.event_queue.specs.QueueView.{QueueView};
     ghost use Rattle.event_queue.specs.Heap.{IsSound, seen};
     ghost use Rattle.std.specs.Prelude.{length, vec_capacity};
 
-    ghost Value = { Kept };
+    ghost Value = { QueueView };
 
     ghost view = { λ q. seen q.first q.heap.items (length q.heap.items) q.positions.items };
 
@@ -37,12 +37,8 @@ impl Queue {
         requires { first.0 + count < 2 ^ 64 }
         ensures { IfOk result (λ q. q ≡ record { first = first.0; events = replicate count None }) }
     {
-        let Ok(heap) = Vec::with_capacity(alloc, count as usize) else {
-            return Err(NoMemory);
-        };
-        let Ok(positions) = vec![in alloc; NOWHERE; count as usize] else {
-            return Err(NoMemory);
-        };
+        let heap = Vec::with_capacity(alloc, count as usize)?;
+        let positions = vec![in alloc; NOWHERE; count as usize]?;
         Ok(Queue {
             first: first.0,
             heap,
@@ -103,7 +99,7 @@ impl Queue {
     #[inline]
     pub fn get(&self, place: Place) -> Option<Event>
         requires { HasPlace self.now place }
-        ensures value { result ≡ kept_at self.now place }
+        ensures value { result ≡ event_at self.now place }
         ensures place { IfSome result (λ e. e.place ≡ place) }
     {
         let at = self.positions[(place.0 - self.first) as usize] as usize;
@@ -117,7 +113,7 @@ impl Queue {
     /// The kept event with the least key; `None` exactly where none is kept.
     #[inline]
     pub fn least(&self) -> Option<Event>
-        ensures least { MatchOption result (KeepsNone self.now) (λ e. IsLeast self.now e) }
+        ensures least { MatchOption result (IsEmpty self.now) (λ e. IsLeast self.now e) }
         ensures earliest { result ≡ least_among self.now.events (length self.now.events) }
     {
         if self.heap.len() == 0 {

@@ -1,4 +1,4 @@
-pub mod Squarings
-pub mod Bounds
-pub mod Laws
+mod Squarings
+mod Bounds
+pub mod LawLemmas
 mod Vectors

@@ -8,6 +8,8 @@
 //! The crate stands on nothing but std.
 #![tactic(auto)]
 
+pub mod laws;
+
 ghost use Rattle.std.specs.Prelude.{◌≡◌, ◌<◌, ◌≤◌, ◌^◌, ◌+◌, ◌/◌};
 ghost use Rattle.fixed_log.specs.Log.{next_bit, next_x, fixed_log_of, energy_of};
 

@@ -72,16 +72,16 @@ north_in nets _ col half (OfNet zero below) has is =
 past_side : (nets : List Net) (r col half : ℕ) → halves nets (role_of nets r col) ≤ half → side_of nets r col half ≡ None
 past_side nets r col half le = ap (λ b. if b then side_in nets (row_of (length nets) r) (column_of (gate_count nets) col) col half else None) (not_below half (halves nets (role_of nets r col)) le)
 
--- a side that is told is that of a half that the role has
-side_told : (nets : List Net) (r col half : ℕ) (d : Side) → side_of nets r col half ≡ Some d → (half < halves nets (role_of nets r col)) × (side_in nets (row_of (length nets) r) (column_of (gate_count nets) col) col half ≡ Some d)
-side_told nets r col half d is = elim (cases_lt half (halves nets (role_of nets r col))) [
+-- where a half has a side, the role has that half
+side_inside : (nets : List Net) (r col half : ℕ) (d : Side) → side_of nets r col half ≡ Some d → (half < halves nets (role_of nets r col)) × (side_in nets (row_of (length nets) r) (column_of (gate_count nets) col) col half ≡ Some d)
+side_inside nets r col half d is = elim (cases_lt half (halves nets (role_of nets r col))) [
   | inl has ↦ (has, ap (λ b. if b then side_in nets (row_of (length nets) r) (column_of (gate_count nets) col) col half else None) (sym (lt-ltb half (halves nets (role_of nets r col)) has)) ∙ is)
   | inr le ↦ absurd (none-some _ (sym (past_side nets r col half le) ∙ is))
 ]
 
 pub north_inside : (nets : List Net) (r col half : ℕ) → r < row_count nets → side_of nets r col half ≡ Some North → 0 < r
 unfolding role_of
-north_inside nets r col half lt is = let t = side_told nets r col half North is in north_in nets r col half (view (length nets) r lt) t.0 t.1
+north_inside nets r col half lt is = let t = side_inside nets r col half North is in north_in nets r col half (view (length nets) r lt) t.0 t.1
 
 -- a feeder to the west is within the layout
 first_west : (nets : List Net) (row : Row) (half : ℕ) → half < halves nets (role_in nets row Outside) → side_in nets row Outside 0 half ≡ Some West → ⊥
@@ -93,7 +93,7 @@ first_west nets Bottom half has is = omega (arith, has)
 
 pub west_inside : (nets : List Net) (r col half : ℕ) → side_of nets r col half ≡ Some West → 0 < col
 unfolding role_of
-west_inside nets r zero half is = let t = side_told nets r zero half West is in absurd (first_west nets (row_of (length nets) r) half t.0 t.1)
+west_inside nets r zero half is = let t = side_inside nets r zero half West is in absurd (first_west nets (row_of (length nets) r) half t.0 t.1)
 west_inside nets r (suc col) half is = omega arith
 
 -- a half without a feeder is none that the role has, or that of an input cell

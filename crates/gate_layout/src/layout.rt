@@ -16,6 +16,7 @@ use crate::role::Role;
 use crate::roles::role_in;
 use crate::table::Roles;
 use circuit_text::Circuit;
+use circuit_text::laws::nets_are_ordered;
 use std::marker::Model;
 
 /// The most cells of a layout.
@@ -29,7 +30,7 @@ pub struct TooManySites {
 }
 
 /// The layout of a circuit: a row for each net, six columns for each gate, and where they meet a crossing or a wire.
-/// Cells are told by row and column.
+/// Cells go by row and column.
 #[derive(Drop)]
 pub struct Layout<'a> {
     circuit: &'a Circuit,
@@ -47,14 +48,15 @@ impl<'a> Model for Layout<'a> {
     ghost invariant = { λ l. site_count l.circuit.now.nets ≤ 2 ^ 20 };
 }
 
-/// What each circuit keeps: it has at most 65,536 nets, its inputs are numbered in the order of the nets, and its
+/// What holds of each circuit: it has at most 65,536 nets, its inputs are numbered in the order of the nets, and its
 /// outputs are nets. The calls say so, and their answers are not needed.
-fn keeps(circuit: &Circuit)
+pub(crate) fn circuit_facts(circuit: &Circuit)
     ensures few { length circuit.now.nets ≤ 65536 }
     ensures nets { AreNets circuit.now.nets }
     ensures inputs { AreNumbered circuit.now.nets }
     ensures outputs { (i : ℕ) → i < length circuit.now.outputs → get_or circuit.now.outputs i 0 < length circuit.now.nets }
 {
+    nets_are_ordered(circuit);
     let _nets = circuit.net_count();
     let _inputs = circuit.input_count();
     let _outputs = circuit.output_count();
@@ -95,7 +97,7 @@ fn side(circuit: &Circuit, row: u32, col: u32, half: u8) -> Option<Side>
     requires few { 6 * gate_count circuit.now.nets < 2 ^ 20 }
     ensures { result ≡ side_of circuit.now.nets row col half }
 {
-    keeps(circuit);
+    circuit_facts(circuit);
     if half >= halves(circuit, role(circuit, row, col)) {
         return None;
     }
@@ -125,9 +127,9 @@ impl<'a> Layout<'a> {
         ensures laid { IfOk result (λ laid. laid ≡ circuit.now) }
         ensures sites { IfErr result (λ error. error.sites ≡ site_count circuit.now.nets) }
         ensures refused { IsErr result ↔ (2 ^ 20 < site_count circuit.now.nets) }
-        ensures formed { IsWellFormed circuit.now (layout circuit.now) }
+        ensures formed { IfOk result (λ laid. IsWellFormed circuit.now (layout laid)) }
     {
-        keeps(circuit);
+        circuit_facts(circuit);
         let rows = 2 * circuit.net_count() as u64 + 2;
         let cols = 6 * circuit.gate_count() as u64 + 3;
         let sites = rows * cols;
@@ -170,7 +172,7 @@ impl<'a> Layout<'a> {
         ensures { spot_of result ≡ input_cell self.now.nets i }
     {
         let circuit = self.circuit;
-        keeps(circuit);
+        circuit_facts(circuit);
         (2 * input_net(circuit, i), 0)
     }
 
@@ -193,7 +195,7 @@ impl<'a> Layout<'a> {
         ensures none { IsNone result ↔ ((halves self.now.nets (role_of self.now.nets row col) ≤ half) ⊎ IsInput (layout self.now) (spot_of (row, col))) }
     {
         let circuit = self.circuit;
-        keeps(circuit);
+        circuit_facts(circuit);
         feeder(circuit, row, col, half)
     }
 
@@ -213,6 +215,8 @@ impl<'a> Roles for Layout<'a> {
     ghost use Rattle.gate_layout.specs.Layout.{layout};
 
     ghost table = { layout };
+
+    ghost circuit = { λ l. l };
 
     fn rows(&self) -> u32 {
         self.rows()

@@ -10,6 +10,7 @@
 #![tactic(auto)]
 
 mod feeds;
+pub mod laws;
 mod layout;
 mod parts;
 mod ranks;

@@ -1,7 +1,7 @@
 -- Insertion into a rising list: the higher numbers move up by one.
 use Rattle.std.proofs.Common.{◌≡◌, ◌≢◌, ℕ, ◌+◌, ◌-◌, ◌<◌, ◌≤◌, List, length, ◌⊎◌, inl, inr, ◌↔◌, sym, ap, ◌∙◌, arith, set, get_or-set_other, get_or-set_same}
 use Rattle.std.proofs.lemmas.Bool.{cases_order}
-use Rattle.surf_kinds.specs.declared.event.Place.{Place}
+use Rattle.surf_kinds.specs.declared.place.Place.{Place}
 use Rattle.lattice.specs.Rising.{number_at}
 
 -- g's numbers from index at on, all above p, stand one further in f, up to index n

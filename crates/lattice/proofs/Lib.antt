@@ -1,14 +1,15 @@
-pub mod Steps
-pub mod Sites
-pub mod Writes
-pub mod Insertion
-pub mod Slots
-pub mod Moves
-pub mod Chain
-pub mod Around
-pub mod Laws
-pub mod AfterSite
-pub mod Rank
-pub mod Seven
-pub mod Pinned
-pub mod With
+mod Steps
+mod Sites
+mod Writes
+mod Insertion
+mod Slots
+mod Moves
+mod Chain
+mod Around
+mod Apart
+mod AfterSite
+mod Rank
+mod Seven
+mod With
+mod Rows
+pub mod LawLemmas

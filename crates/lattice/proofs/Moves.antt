@@ -1,14 +1,16 @@
 -- How a step changes the row and the column.
-use Rattle.std.proofs.Common.{◌≡◌, ◌≢◌, ℕ, ◌+◌, ◌*◌, ◌/◌, ◌%◌, ◌<◌, ◌≤◌, Option, Some, None, Bool, true, false, ◌⊎◌, inl, inr, sym, ap, ◌∙◌, subst, arith, if◌then◌else◌}
+use Rattle.std.proofs.Common.{◌≡◌, ◌≢◌, ℕ, ◌+◌, ◌*◌, ◌/◌, ◌%◌, ◌<◌, ◌≤◌, Option, Some, None, Bool, true, false, ◌⊎◌, inl, inr, refl, sym, ap, ◌∙◌, arith, if◌then◌else◌}
 use Rattle.std.proofs.lemmas.Nat.{div-mul-add, mod-mul-add}
 use Rattle.std.proofs.lemmas.Option.{none-some, same_Some}
 use Rattle.std.proofs.lemmas.Bool.Decides.{nat_tests}
 use Rattle.surf_kinds.specs.declared.site.SiteId.{SiteId}
+use Rattle.surf_kinds.specs.declared.place.Step.{Step}
+use Rattle.surf_kinds.specs.declared.place.Step.TheVariants.{Alone, East, South, SouthWest}
+use Rattle.surf_kinds.specs.Steps.{step_number}
 use Rattle.lattice.specs.Shape.{Shape}
 use Rattle.lattice.specs.Places.{forward, back, site_at, is_hex, neighbour, behind}
 use Rattle.lattice.proofs.Steps.{Inverse, stands_at, stay, forward_back, back_forward, leads}
 use Rattle.lattice.proofs.Sites.{behind_forth}
-use Rattle.lattice.proofs.Slots.{step_is}
 
 -- j comes after i in a dimension of this size
 abbrev pub Next : ℕ → ℕ → ℕ → Type 0
@@ -20,7 +22,7 @@ forward_next wrap size i j h e = grind (arith, nat_tests)
 pub back_next : (wrap : Bool) (size i j : ℕ) → i < size → back wrap size i ≡ Some j → Next size j i
 back_next wrap size i j h e = grind (arith, nat_tests)
 
--- a step of this kind, by rows and columns
+-- a step of this number, by rows and columns
 abbrev pub Moves : ℕ → ℕ → ℕ → ℕ → ℕ → ℕ → ℕ → Type 0
 Moves rows cols d r c r' c' =
     ((d ≡ 1) × (r' ≡ r) × Next cols c c')
@@ -36,24 +38,22 @@ arrives m cols f f' g g' p q s n h e =
       to.col_is ∙ ap (λ k. Some k) (sym (ap (λ k. k % cols) to.is ∙ mod-mul-add to.r cols to.c col)),
     )
 
-when_some : (b : Bool) (o : Option SiteId) (n : SiteId) → (if b then o else None) ≡ Some n → o ≡ Some n
+pub when_some : (b : Bool) (o : Option SiteId) (n : SiteId) → (if b then o else None) ≡ Some n → o ≡ Some n
 when_some true o n e = e
 when_some false o n e = absurd (none-some n e)
 
-pub moves : (l : Shape) (s d : ℕ) (n : SiteId) → s < l.rows * l.cols → neighbour l s d ≡ Some n → Moves l.rows l.cols d (s / l.cols) (s % l.cols) (n.0 / l.cols) (n.0 % l.cols)
-moves l s d n h e =
+pub moves : (l : Shape) (s : ℕ) (d : Step) (n : SiteId) → s < l.rows * l.cols → neighbour l s d ≡ Some n → Moves l.rows l.cols (step_number d) (s / l.cols) (s % l.cols) (n.0 / l.cols) (n.0 % l.cols)
+moves l s Alone n h e = absurd (none-some n e)
+moves l s East n h e =
+    let to = arrives l.rows l.cols (λ i. Some i) (λ i. Some i) (forward l.wrap l.cols) (back l.wrap l.cols) (stay l.rows) (forward_back l.wrap l.cols) s n h e in
+    inl (refl, sym (same_Some _ _ to.0), forward_next l.wrap l.cols _ _ (stands_at l.rows l.cols s h).col to.1)
+moves l s South n h e =
+    let to = arrives l.rows l.cols (forward l.wrap l.rows) (back l.wrap l.rows) (λ i. Some i) (λ i. Some i) (forward_back l.wrap l.rows) (stay l.cols) s n h e in
+    inr (inl (refl, forward_next l.wrap l.rows _ _ (stands_at l.rows l.cols s h).row to.0, sym (same_Some _ _ to.1)))
+moves l s SouthWest n h e =
     let at = stands_at l.rows l.cols s h in
-    elim (step_is l s d n e) [
-      | inl one ↦
-          let to = arrives l.rows l.cols (λ i. Some i) (λ i. Some i) (forward l.wrap l.cols) (back l.wrap l.cols) (stay l.rows) (forward_back l.wrap l.cols) s n h (subst (λ k. neighbour l s k ≡ Some n) one e) in
-          inl (one, sym (same_Some _ _ to.0), forward_next l.wrap l.cols _ _ at.col to.1)
-      | inr (inl two) ↦
-          let to = arrives l.rows l.cols (forward l.wrap l.rows) (back l.wrap l.rows) (λ i. Some i) (λ i. Some i) (forward_back l.wrap l.rows) (stay l.cols) s n h (subst (λ k. neighbour l s k ≡ Some n) two e) in
-          inr (inl (two, forward_next l.wrap l.rows _ _ at.row to.0, sym (same_Some _ _ to.1)))
-      | inr (inr three) ↦
-          let to = arrives l.rows l.cols (forward l.wrap l.rows) (back l.wrap l.rows) (back l.wrap l.cols) (forward l.wrap l.cols) (forward_back l.wrap l.rows) (back_forward l.wrap l.cols) s n h (when_some (is_hex l.kind) _ n (subst (λ k. neighbour l s k ≡ Some n) three e)) in
-          inr (inr (three, forward_next l.wrap l.rows _ _ at.row to.0, back_next l.wrap l.cols _ _ at.col to.1))
-    ]
+    let to = arrives l.rows l.cols (forward l.wrap l.rows) (back l.wrap l.rows) (back l.wrap l.cols) (forward l.wrap l.cols) (forward_back l.wrap l.rows) (back_forward l.wrap l.cols) s n h (when_some (is_hex l.kind) _ n e) in
+    inr (inr (refl, forward_next l.wrap l.rows _ _ at.row to.0, back_next l.wrap l.cols _ _ at.col to.1))
 
 pub moved : (m k d r c r' c' : ℕ) → Moves m k d r c r' c' → r' ≡ r → c' ≡ c → ⊥
 moved m k d r c r' c' h p q = grind arith
@@ -66,8 +66,8 @@ no_return m k d e r c r' c' h i = grind arith
 pub same_step : (m k d e r c r' c' : ℕ) → Moves m k d r c r' c' → Moves m k e r c r' c' → d ≡ e
 same_step m k d e r c r' c' h i = grind arith
 
-pub neighbour_differs : (l : Shape) (s d : ℕ) (n : SiteId) → s < l.rows * l.cols → neighbour l s d ≡ Some n → n.0 ≢ s
-neighbour_differs l s d n h e is = moved l.rows l.cols d _ _ _ _ (moves l s d n h e) (ap (λ k. k / l.cols) is) (ap (λ k. k % l.cols) is)
+pub neighbour_differs : (l : Shape) (s : ℕ) (d : Step) (n : SiteId) → s < l.rows * l.cols → neighbour l s d ≡ Some n → n.0 ≢ s
+neighbour_differs l s d n h e is = moved l.rows l.cols (step_number d) _ _ _ _ (moves l s d n h e) (ap (λ k. k / l.cols) is) (ap (λ k. k % l.cols) is)
 
-pub behind_differs : (l : Shape) (s d : ℕ) (n : SiteId) → s < l.rows * l.cols → behind l s d ≡ Some n → n.0 ≢ s
+pub behind_differs : (l : Shape) (s : ℕ) (d : Step) (n : SiteId) → s < l.rows * l.cols → behind l s d ≡ Some n → n.0 ≢ s
 behind_differs l s d n h e is = let forth = behind_forth l s d n h e in neighbour_differs l n.0 d (record { 0 = s }) forth.0 forth.1 (sym is)

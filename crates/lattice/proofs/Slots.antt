@@ -1,83 +1,60 @@
 -- The places that have a site, by the way in which they have it.
-use Rattle.std.proofs.Common.{◌≡◌, ℕ, ◌+◌, ◌*◌, ◌/◌, ◌%◌, ◌<◌, ◌≤◌, Option, Some, None, Bool, true, false, ◌==◌, ◌&&◌, ◌⊎◌, inl, inr, refl, sym, ap, ◌∙◌, arith, if◌then◌else◌}
+use Rattle.std.proofs.Common.{◌≡◌, ℕ, ◌*◌, ◌<◌, Some, None, ◌⊎◌, inl, inr, refl, sym, ap, ◌∙◌, if◌then◌else◌}
 use Rattle.std.specs.Prelude.{nat_lt}
 use Rattle.std.proofs.lemmas.Option.{none-some}
-use Rattle.std.proofs.lemmas.Bool.{and_parts, lt-ltb}
-use Rattle.std.proofs.lemmas.Bool.Decides.{nat_tests}
+use Rattle.std.proofs.lemmas.Bool.{lt-ltb}
 use Rattle.surf_kinds.specs.declared.site.SiteId.{SiteId}
+use Rattle.surf_kinds.specs.declared.place.Step.{Step}
+use Rattle.surf_kinds.specs.declared.place.Step.TheVariants.{Alone, East, South, SouthWest}
+use Rattle.surf_kinds.specs.Steps.{site_of_place, step_of_place, number_of_place}
+use Rattle.surf_kinds.proofs.Steps.{site_of_number, step_of_number, number_of_parts}
 use Rattle.lattice.specs.Shape.{Shape}
-use Rattle.lattice.specs.Places.{is_hex, neighbour, behind, paired, sites_at, sites_of, HasSite}
+use Rattle.lattice.specs.Places.{neighbour, behind, paired, sites_at, sites_of, HasSite}
 use Rattle.lattice.proofs.Sites.{neighbour_back, behind_forth, described}
 
-one_of : (a b c : Bool) (x y z : Option SiteId) (n : SiteId) → (if a then x else (if b then y else (if c then z else None))) ≡ Some n → (a ≡ true) ⊎ ((b ≡ true) ⊎ (c ≡ true))
-one_of true b c x y z n e = inl refl
-one_of false true c x y z n e = inr (inl refl)
-one_of false false true x y z n e = inr (inr refl)
-one_of false false false x y z n e = absurd (none-some n e)
-
-is_from : (d k : ℕ) → (d == k) ≡ true → d ≡ k
-is_from d k e = grind (arith, nat_tests)
-
--- a step is one of three
-pub step_is : (l : Shape) (s d : ℕ) (n : SiteId) → neighbour l s d ≡ Some n → (d ≡ 1) ⊎ ((d ≡ 2) ⊎ (d ≡ 3))
-step_is l s d n e = elim (one_of (d == 1) (d == 2) (d == 3 && is_hex l.kind) _ _ _ n e) [
-  | inl one ↦ inl (is_from d 1 one)
-  | inr (inl two) ↦ inr (inl (is_from d 2 two))
-  | inr (inr three) ↦ inr (inr (is_from d 3 (and_parts (d == 3) (is_hex l.kind) three).0))
-]
-
-pub step_back_is : (l : Shape) (s d : ℕ) (n : SiteId) → behind l s d ≡ Some n → (d ≡ 1) ⊎ ((d ≡ 2) ⊎ (d ≡ 3))
-step_back_is l s d n e = elim (one_of (d == 1) (d == 2) (d == 3 && is_hex l.kind) _ _ _ n e) [
-  | inl one ↦ inl (is_from d 1 one)
-  | inr (inl two) ↦ inr (inl (is_from d 2 two))
-  | inr (inr three) ↦ inr (inr (is_from d 3 (and_parts (d == 3) (is_hex l.kind) three).0))
-]
-
-pub alone_is : (l : Shape) (s place : ℕ) → s < l.rows * l.cols → place ≡ 8 * s → sites_of l place ≡ Some (record { first = record { 0 = s }; second = None })
+-- the sites of the place of a site and a step
+made_of : (l : Shape) (s : ℕ) (d : Step) → s < l.rows * l.cols → sites_of l (number_of_place s d) ≡ sites_at l s (Some d)
 unfolding sites_of
-alone_is l s place h is =
-    let first : place / 8 ≡ s = omega arith in
-    let rest : place % 8 ≡ 0 = omega arith in
-    let within : nat_lt s (l.rows * l.cols) ≡ true = lt-ltb s (l.rows * l.cols) h in
-    ap (λ k. if nat_lt k (l.rows * l.cols) then sites_at l k (place % 8) else None) first
-    ∙ ap (λ b. if b then sites_at l s (place % 8) else None) within
-    ∙ ap (sites_at l s) rest
+made_of l s d h =
+    ap (λ k. if nat_lt k (l.rows * l.cols) then sites_at l k (step_of_place (number_of_place s d)) else None) (site_of_number s d)
+    ∙ ap (λ b. if b then sites_at l s (step_of_place (number_of_place s d)) else None) (lt-ltb s (l.rows * l.cols) h)
+    ∙ ap (sites_at l s) (step_of_number s d)
 
-pub pair_is : (l : Shape) (s d : ℕ) (n : SiteId) (place : ℕ) → s < l.rows * l.cols → place ≡ 8 * s + d → neighbour l s d ≡ Some n → sites_of l place ≡ Some (record { first = record { 0 = s }; second = Some n })
-unfolding sites_of
-pair_is l s d n place h is e =
-    let few = step_is l s d n e in
-    let small : (1 ≤ d) × (d ≤ 3) = elim few [ inl a ↦ (omega arith, omega arith) | inr (inl a) ↦ (omega arith, omega arith) | inr (inr a) ↦ (omega arith, omega arith) ] in
-    let first : place / 8 ≡ s = omega (arith, small) in
-    let rest : place % 8 ≡ d = omega (arith, small) in
-    let within : nat_lt s (l.rows * l.cols) ≡ true = lt-ltb s (l.rows * l.cols) h in
-    let apart : (d == 0) ≡ false = grind (arith, nat_tests) in
-    ap (λ k. if nat_lt k (l.rows * l.cols) then sites_at l k (place % 8) else None) first
-    ∙ ap (λ b. if b then sites_at l s (place % 8) else None) within
-    ∙ ap (sites_at l s) rest
-    ∙ ap (λ b. if b then Some (record { first = record { 0 = s }; second = None }) else paired s (neighbour l s d)) apart
-    ∙ ap (paired s) e
+joins : (l : Shape) (s : ℕ) (d : Step) (n : SiteId) → neighbour l s d ≡ Some n → sites_at l s (Some d) ≡ paired s (Some n)
+joins l s Alone n e = absurd (none-some n e)
+joins l s East n e = ap (paired s) e
+joins l s South n e = ap (paired s) e
+joins l s SouthWest n e = ap (paired s) e
+
+pub alone_is : (l : Shape) (s place : ℕ) → s < l.rows * l.cols → place ≡ number_of_place s Alone → sites_of l place ≡ Some (record { first = record { 0 = s }; second = None })
+alone_is l s place h is = ap (sites_of l) is ∙ made_of l s Alone h
+
+pub pair_is : (l : Shape) (s : ℕ) (d : Step) (n : SiteId) (place : ℕ) → s < l.rows * l.cols → place ≡ number_of_place s d → neighbour l s d ≡ Some n → sites_of l place ≡ Some (record { first = record { 0 = s }; second = Some n })
+pair_is l s d n place h is e = ap (sites_of l) is ∙ made_of l s d h ∙ joins l s d n e
 
 -- the site alone, a pair of which it is the first, or a pair of which it is the second
 abbrev pub Way : Shape → ℕ → ℕ → Type 0
 Way l s place =
-    (place ≡ 8 * s)
-    ⊎ (((d : ℕ) × (n : SiteId) × (place ≡ 8 * s + d) × (neighbour l s d ≡ Some n))
-    ⊎ ((d : ℕ) × (n : SiteId) × (place ≡ 8 * n.0 + d) × (behind l s d ≡ Some n)))
+    (place ≡ number_of_place s Alone)
+    ⊎ (((d : Step) × (n : SiteId) × (place ≡ number_of_place s d) × (neighbour l s d ≡ Some n))
+    ⊎ ((d : Step) × (n : SiteId) × (place ≡ number_of_place n.0 d) × (behind l s d ≡ Some n)))
 
 pub way_of : (l : Shape) (s place : ℕ) → HasSite l place s → Way l s place
 way_of l s place h =
     let d = described l place h.sites h.is in
     elim h.among [
       | inl first ↦
-          let at : place / 8 ≡ s = sym d.first ∙ first in
+          let at : site_of_place place ≡ s = sym d.first ∙ first in
           elim h.sites.second as (λ o. o ≡ h.sites.second → Way l s place) [
-            | None ↦ λ none. inl (let rest = d.alone (sym none) in omega (arith, rest, at))
-            | Some n ↦ λ some. inr (inl (place % 8, n, omega (arith, at), ap (λ k. neighbour l k (place % 8)) (sym at) ∙ d.paired n (sym some)))
+            | None ↦ λ none. inl (number_of_parts place Alone (d.alone (sym none)) ∙ ap (λ k. number_of_place k Alone) at)
+            | Some n ↦ λ some.
+                let to = d.joined n (sym some) in
+                inr (inl (to.step, n, number_of_parts place to.step to.step_is ∙ ap (λ k. number_of_place k to.step) at, ap (λ k. neighbour l k to.step) (sym at) ∙ to.leads))
           ] refl
       | inr second ↦
-          let back = neighbour_back l (place / 8) (place % 8) (record { 0 = s }) d.below (d.paired (record { 0 = s }) second) in
-          inr (inr (place % 8, record { 0 = place / 8 }, omega arith, back.1))
+          let to = d.joined (record { 0 = s }) second in
+          let back = neighbour_back l (site_of_place place) to.step (record { 0 = s }) d.below to.leads in
+          inr (inr (to.step, record { 0 = site_of_place place }, number_of_parts place to.step to.step_is, back.1))
     ]
 
 pub has_way : (l : Shape) (s place : ℕ) → s < l.rows * l.cols → Way l s place → HasSite l place s

@@ -7,6 +7,7 @@ use Rattle.std.proofs.lemmas.Nat.{rows, div-add-mod', div-mul-add, mod-mul-add}
 use Rattle.std.proofs.lemmas.Option.{none-some, same_Some}
 use Rattle.std.proofs.lemmas.Bool.Decides.{nat_tests}
 use Rattle.surf_kinds.specs.declared.site.SiteId.{SiteId}
+use Rattle.surf_kinds.specs.declared.place.Step.TheVariants.{East, South}
 use Rattle.lattice.specs.Shape.{Shape}
 use Rattle.lattice.specs.Places.{wraps, forward, back, site_at, neighbour, behind}
 
@@ -90,7 +91,7 @@ last_row m cols s h le =
     let is : s / cols + 1 ≡ m = omega (arith, at.row) in
     (is, omega (arith, at.col, at.is, ap (λ k. k * cols) is))
 
-pub south_past : (l : Shape) (s : ℕ) → s < l.rows * l.cols → l.rows * l.cols ≤ s + l.cols → neighbour l s 2 ≡ (if wraps l.wrap l.rows then Some (record { 0 = s + l.cols - l.rows * l.cols }) else None)
+pub south_past : (l : Shape) (s : ℕ) → s < l.rows * l.cols → l.rows * l.cols ≤ s + l.cols → neighbour l s South ≡ (if wraps l.wrap l.rows then Some (record { 0 = s + l.cols - l.rows * l.cols }) else None)
 south_past l s h le =
     let last = last_row l.rows l.cols s h le in
     let past : nat_lt (s / l.cols + 1) l.rows ≡ false = grind (arith, nat_tests) in
@@ -101,7 +102,7 @@ south_past l s h le =
     ]
 
 -- the site to the south of the site to the west
-pub south_of_west : (l : Shape) (s : ℕ) (n : SiteId) → s < l.rows * l.cols → behind l s 1 ≡ Some n → (n.0 < l.rows * l.cols) × (neighbour l n.0 2 ≡ site_at l.cols (forward l.wrap l.rows (s / l.cols)) (back l.wrap l.cols (s % l.cols)))
+pub south_of_west : (l : Shape) (s : ℕ) (n : SiteId) → s < l.rows * l.cols → behind l s East ≡ Some n → (n.0 < l.rows * l.cols) × (neighbour l n.0 South ≡ site_at l.cols (forward l.wrap l.rows (s / l.cols)) (back l.wrap l.cols (s % l.cols)))
 south_of_west l s n h e =
     let at = stands_at l.rows l.cols s h in
     let to = leads l.cols (Some (s / l.cols)) (back l.wrap l.cols (s % l.cols)) n e in
@@ -120,7 +121,7 @@ last_is m cols s h p =
     let col : s % cols ≡ s = mod-eq_of_lt h in
     omega (arith, all, col)
 
-pub north_past : (l : Shape) (s : ℕ) → s < l.rows * l.cols → s < l.cols → behind l s 2 ≡ (if wraps l.wrap l.rows then Some (record { 0 = s + l.rows * l.cols - l.cols }) else None)
+pub north_past : (l : Shape) (s : ℕ) → s < l.rows * l.cols → s < l.cols → behind l s South ≡ (if wraps l.wrap l.rows then Some (record { 0 = s + l.rows * l.cols - l.cols }) else None)
 north_past l s h first =
     let at = stands_at l.rows l.cols s h in
     let row : s / l.cols ≡ 0 = div-eq_of_lt first in
@@ -133,7 +134,7 @@ north_past l s h first =
     ]
 
 -- the site to the east of the site to the north
-pub east_of_north : (l : Shape) (s : ℕ) (n : SiteId) → s < l.rows * l.cols → behind l s 2 ≡ Some n → (n.0 < l.rows * l.cols) × (s % l.cols ≡ n.0 % l.cols) × (neighbour l n.0 1 ≡ site_at l.cols (back l.wrap l.rows (s / l.cols)) (forward l.wrap l.cols (s % l.cols)))
+pub east_of_north : (l : Shape) (s : ℕ) (n : SiteId) → s < l.rows * l.cols → behind l s South ≡ Some n → (n.0 < l.rows * l.cols) × (s % l.cols ≡ n.0 % l.cols) × (neighbour l n.0 East ≡ site_at l.cols (back l.wrap l.rows (s / l.cols)) (forward l.wrap l.cols (s % l.cols)))
 east_of_north l s n h e =
     let at = stands_at l.rows l.cols s h in
     let to = leads l.cols (back l.wrap l.rows (s / l.cols)) (Some (s % l.cols)) n e in

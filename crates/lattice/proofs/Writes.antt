@@ -1,6 +1,6 @@
 -- What a rewriting leaves at each site.
-use Rattle.std.proofs.Common.{◌≡◌, ◌≢◌, ℕ, zero, suc, ◌-◌, ◌/◌, ◌%◌, ◌<◌, ◌^◌, List, [], ◌∷◌, length, Option, Some, None, inl, inr, refl, sym, ap, ◌∙◌, subst, arith, set, get_or}
-use Rattle.std.specs.Prelude.{slice_get, IfSome, All}
+use Rattle.std.proofs.Common.{◌≡◌, ◌≢◌, ℕ, zero, suc, ◌-◌, ◌<◌, ◌^◌, List, [], ◌∷◌, length, Option, Some, None, inl, inr, refl, sym, ap, ◌∙◌, subst, arith, set, get_or}
+use Rattle.std.specs.Prelude.{slice_get, unwrap_or, IfSome, All}
 use Rattle.std.proofs.lemmas.Option.{slice_get_within, slice_get-get_or, get_or_from_slice_get}
 use Rattle.std.proofs.lemmas.Bool.Decides.{eqb_tells}
 use Rattle.surf_kinds.specs.declared.site.SiteState.{SiteState}
@@ -9,8 +9,10 @@ use Rattle.std.proofs.lemmas.List.{length-set}
 use Rattle.surf_kinds.specs.declared.rule.Rule.{Rule}
 use Rattle.surf_kinds.specs.declared.site.Sites.{Sites}
 use Rattle.surf_kinds.specs.declared.event.Event.{Event}
+use Rattle.surf_kinds.specs.Channels.{rule_of_channel, way_of_channel}
 use Rattle.lattice.specs.Shape.{Shape}
 use Rattle.lattice.specs.Places.{sites_of}
+use Rattle.lattice.specs.Channels.{products}
 use Rattle.lattice.specs.Surface.{first_product, second_product, rewritten, rewrite, rewrite_second, rewrite_all, after, HasRoom}
 
 pub get_other : (xs : List SiteState) (i j : ℕ) (s : SiteState) → j ≢ i → slice_get (set xs i s) j ≡ slice_get xs j
@@ -57,10 +59,13 @@ room_left product time i j sites h room =
           (omega (arith, below))
     ]
 
-pub after_is : (l : Shape) (rules : List Rule) (sites : List SiteState) (e : Event) (p : Sites) (rule : Rule) → sites_of l e.place.0 ≡ Some p → slice_get rules (e.channel / 2) ≡ Some rule → after l rules sites e ≡ rewrite_second (second_product (Some rule) (e.channel % 2)) e.time p.second (rewrite (first_product (Some rule) (e.channel % 2)) e.time p.first.0 (slice_get sites p.first.0) sites)
-after_is l rules sites e p rule is ruled =
+-- an event of a rule leaves what the rule does, in the channel's way
+pub after_is : (l : Shape) (rules : List Rule) (sites : List SiteState) (e : Event) (p : Sites) (rule : Rule) (new : SpeciesId × Option SpeciesId) → sites_of l e.place.0 ≡ Some p → slice_get rules (rule_of_channel e.channel) ≡ Some rule → new ≡ products (way_of_channel e.channel) rule
+    → after l rules sites e ≡ rewrite_second (unwrap_or new.1) e.time p.second (rewrite (unwrap_or (Some new.0)) e.time p.first.0 (slice_get sites p.first.0) sites)
+after_is l rules sites e p rule new is ruled leaves =
     ap (λ o. rewrite_all rules e o sites) is
-    ∙ ap (λ o. rewrite_second (second_product o (e.channel % 2)) e.time p.second (rewrite (first_product o (e.channel % 2)) e.time p.first.0 (slice_get sites p.first.0) sites)) ruled
+    ∙ ap (λ o. rewrite_second (second_product o (way_of_channel e.channel)) e.time p.second (rewrite (first_product o (way_of_channel e.channel)) e.time p.first.0 (slice_get sites p.first.0) sites)) ruled
+    ∙ ap (λ (t : SpeciesId × Option SpeciesId). rewrite_second (unwrap_or t.1) e.time p.second (rewrite (unwrap_or (Some t.0)) e.time p.first.0 (slice_get sites p.first.0) sites)) (sym leaves)
 
 room_in : (o : Option SiteState) → ((x : SiteState) → o ≡ Some x → x.version < 2 ^ 53) → IfSome o (λ x. x.version < 2 ^ 53)
 room_in None h = tt

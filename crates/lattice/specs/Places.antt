@@ -1,12 +1,15 @@
 -- The places of a lattice: its sites, and its pairs of neighbours.
 --
--- Site s stands in row s / columns and in column s % columns. Place 8 * s is site s alone. Places 8 * s + 1,
--- 8 * s + 2 and, on the hexagonal lattice, 8 * s + 3 are its pairs with the east, the south and the south-west.
-use Rattle.std.specs.Prelude.{◌≡◌, ℕ, ◌+◌, ◌-◌, ◌*◌, ◌/◌, ◌%◌, List, map, Option, Some, None, Bool, true, false, ◌==◌, ◌&&◌, ◌⊎◌, ◌↔◌, nat_le, nat_lt, if◌then◌else◌, Contains, IsSome}
+-- Site s stands in row s / columns and in column s % columns. A place is a site alone, or its pair with the neighbour to
+-- the east, to the south or, on the hexagonal lattice, to the south-west.
+use Rattle.std.specs.Prelude.{◌≡◌, ℕ, ◌+◌, ◌-◌, ◌*◌, ◌/◌, ◌%◌, List, map, Option, Some, None, Bool, true, false, ◌&&◌, ◌⊎◌, ◌↔◌, nat_le, nat_lt, if◌then◌else◌, Contains, IsSome}
 use Rattle.std.specs.List.Sorted.{IsStrictlyIncreasing}
 use Rattle.surf_kinds.specs.declared.site.SiteId.{SiteId}
 use Rattle.surf_kinds.specs.declared.site.Sites.{Sites}
-use Rattle.surf_kinds.specs.declared.event.Place.{Place}
+use Rattle.surf_kinds.specs.declared.place.Place.{Place}
+use Rattle.surf_kinds.specs.declared.place.Step.{Step}
+use Rattle.surf_kinds.specs.declared.place.Step.TheVariants.{Alone, East, South, SouthWest}
+use Rattle.surf_kinds.specs.Steps.{site_of_place, step_of_place}
 use Rattle.lattice.specs.declared.grid.Kind.{Kind}
 use Rattle.lattice.specs.declared.grid.Kind.TheVariants.{Square, Hex}
 use Rattle.lattice.specs.Shape.{Shape}
@@ -33,32 +36,39 @@ abbrev pub is_hex : Kind → Bool
 is_hex Square = false
 is_hex Hex = true
 
--- where the step of the pair leads: 1 to the east, 2 to the south, 3 to the south-west
-abbrev pub neighbour : Shape → ℕ → ℕ → Option SiteId
-neighbour l s d =
-    if d == 1 then site_at l.cols (Some (s / l.cols)) (forward l.wrap l.cols (s % l.cols))
-    else (if d == 2 then site_at l.cols (forward l.wrap l.rows (s / l.cols)) (Some (s % l.cols))
-    else (if d == 3 && is_hex l.kind then site_at l.cols (forward l.wrap l.rows (s / l.cols)) (back l.wrap l.cols (s % l.cols))
-    else None))
+-- the neighbour to which a step leads
+abbrev pub neighbour : Shape → ℕ → Step → Option SiteId
+neighbour l s Alone = None
+neighbour l s East = site_at l.cols (Some (s / l.cols)) (forward l.wrap l.cols (s % l.cols))
+neighbour l s South = site_at l.cols (forward l.wrap l.rows (s / l.cols)) (Some (s % l.cols))
+neighbour l s SouthWest =
+    if is_hex l.kind then site_at l.cols (forward l.wrap l.rows (s / l.cols)) (back l.wrap l.cols (s % l.cols)) else None
 
--- the site whose step leads here
-abbrev pub behind : Shape → ℕ → ℕ → Option SiteId
-behind l s d =
-    if d == 1 then site_at l.cols (Some (s / l.cols)) (back l.wrap l.cols (s % l.cols))
-    else (if d == 2 then site_at l.cols (back l.wrap l.rows (s / l.cols)) (Some (s % l.cols))
-    else (if d == 3 && is_hex l.kind then site_at l.cols (back l.wrap l.rows (s / l.cols)) (forward l.wrap l.cols (s % l.cols))
-    else None))
+-- the site from which a step leads here
+abbrev pub behind : Shape → ℕ → Step → Option SiteId
+behind l s Alone = None
+behind l s East = site_at l.cols (Some (s / l.cols)) (back l.wrap l.cols (s % l.cols))
+behind l s South = site_at l.cols (back l.wrap l.rows (s / l.cols)) (Some (s % l.cols))
+behind l s SouthWest =
+    if is_hex l.kind then site_at l.cols (back l.wrap l.rows (s / l.cols)) (forward l.wrap l.cols (s % l.cols)) else None
+
+-- the same, where a place's number has a step
+abbrev pub beside : Shape → ℕ → Option Step → Option SiteId
+beside l s None = None
+beside l s (Some step) = neighbour l s step
 
 abbrev pub paired : ℕ → Option SiteId → Option Sites
 paired s None = None
 paired s (Some n) = Some (record { first = record { 0 = s }; second = Some n })
 
-abbrev pub sites_at : Shape → ℕ → ℕ → Option Sites
-sites_at l s d = if d == 0 then Some (record { first = record { 0 = s }; second = None }) else paired s (neighbour l s d)
+abbrev pub sites_at : Shape → ℕ → Option Step → Option Sites
+sites_at l s (Some Alone) = Some (record { first = record { 0 = s }; second = None })
+sites_at l s step = paired s (beside l s step)
 
 -- the sites of a place, where the number is one
 unfoldable pub sites_of : Shape → ℕ → Option Sites
-sites_of l place = if nat_lt (place / 8) (l.rows * l.cols) then sites_at l (place / 8) (place % 8) else None
+sites_of l place =
+    if nat_lt (site_of_place place) (l.rows * l.cols) then sites_at l (site_of_place place) (step_of_place place) else None
 
 -- the number is a place
 abbrev pub IsPlace : Shape → ℕ → Type 0
@@ -73,6 +83,10 @@ pub record HasSite (l : Shape) (place s : ℕ) : Type 0 where
   pub sites : Sites
   pub is : sites_of l place ≡ Some sites
   pub among : IsAmong s sites
+
+-- each site of the one is a site of the other
+abbrev pub SameSites : Sites → Sites → Type 0
+SameSites x y = (s : ℕ) → IsAmong s x ↔ IsAmong s y
 
 abbrev pub number_of : Place → ℕ
 number_of place = place.0

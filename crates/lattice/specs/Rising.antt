@@ -1,7 +1,9 @@
 -- The first places of a list of places.
-use Rattle.std.specs.Prelude.{◌≡◌, ℕ, ◌+◌, ◌*◌, ◌<◌, List, Option, Some, None, slice_index_or}
+use Rattle.std.specs.Prelude.{◌≡◌, ℕ, ◌+◌, ◌<◌, List, Option, Some, None, slice_index_or}
 use Rattle.surf_kinds.specs.declared.site.SiteId.{SiteId}
-use Rattle.surf_kinds.specs.declared.event.Place.{Place}
+use Rattle.surf_kinds.specs.declared.place.Place.{Place}
+use Rattle.surf_kinds.specs.declared.place.Step.{Step}
+use Rattle.surf_kinds.specs.Steps.{number_of_place}
 
 abbrev pub number_at : List Place → ℕ → ℕ
 number_at list k = (slice_index_or list k (record { 0 = 0 })).0
@@ -15,6 +17,6 @@ abbrev pub IsListed : List Place → ℕ → ℕ → Type 0
 IsListed list n place = (k : ℕ) × (k < n) × (number_at list k ≡ place)
 
 -- the number is that of the site's pair by this step
-abbrev pub IsPairOf : Option SiteId → ℕ → ℕ → Type 0
+abbrev pub IsPairOf : Option SiteId → Step → ℕ → Type 0
 IsPairOf None step place = ⊥
-IsPairOf (Some n) step place = place ≡ 8 * n.0 + step
+IsPairOf (Some n) step place = place ≡ number_of_place n.0 step

@@ -1,12 +1,13 @@
 //! The lattice and its sites.
 
 ghost use Rattle.std.specs.Prelude.{◌≡◌, ◌≤◌, ◌<◌, ◌*◌, ◌%◌, ◌^◌, ◌⊎◌, ◌↔◌, IfOk, Err, Some, take};
-ghost use Rattle.lattice.specs.Places.{ArePlacesOf, HasSite, behind, neighbour, wraps as wraps_at, sites_of as sites_of_place};
+ghost use Rattle.lattice.specs.Places.{ArePlacesOf, HasSite, behind, beside, neighbour, wraps as wraps_at, sites_of as sites_of_place};
+ghost use Rattle.surf_kinds.specs.declared.place.Step.TheVariants.{East, South, SouthWest};
 ghost use Rattle.lattice.specs.declared.grid.SizeFault.TheVariants.{NoSites, TooManySites};
 
 use crate::place_list::PlaceList;
 use std::marker::Model;
-use surf_kinds::{Place, SiteId, Sites};
+use surf_kinds::{Place, SiteId, Sites, Step};
 
 /// What the neighbours of a site are: four on the square lattice, six on the hexagonal one.
 #[derive(Clone, Copy, Debug, PartialEq, Eq)]
@@ -117,20 +118,21 @@ impl Lattice {
     pub fn sites_of(&self, place: Place) -> Option<Sites>
         ensures { result ≡ sites_of_place self.now place.0 }
     {
-        if place.0 / 8 >= u64::from(self.site_count()) {
+        let number = place.site();
+        if number >= u64::from(self.site_count()) {
             return None;
         }
-        let site = (place.0 / 8) as u32;
+        let site = number as u32;
         let first = SiteId(site);
-        if place.0 % 8 == 0 {
-            return Some(Sites {
+        match place.step() {
+            Some(Step::Alone) => Some(Sites {
                 first,
                 second: None,
-            });
-        }
-        match self.beside(site, place.0 % 8) {
-            None => None,
-            second => Some(Sites { first, second }),
+            }),
+            step => match self.beside(site, step) {
+                None => None,
+                second => Some(Sites { first, second }),
+            },
         }
     }
 
@@ -141,9 +143,9 @@ impl Lattice {
         ensures { Some result ≡ sites_of_place self.now place.0 }
     {
         prove!(self.rows >= 1);
-        let first = (place.0 / 8) as u32;
+        let first = place.site() as u32;
         let second = if first == site.0 {
-            self.beside(first, place.0 % 8)
+            self.beside(first, place.step())
         } else {
             Some(site)
         };
@@ -164,13 +166,13 @@ impl Lattice {
         let at = site.0;
         let col = at % self.cols;
         let mut places = PlaceList::new();
-        places.add(self.north(at), 2);
-        places.add(self.north_east(at, col), 3);
-        places.add(self.west(at, col), 1);
-        places.add(Some(site), 0);
-        places.add(self.east(at, col).and(Some(site)), 1);
-        places.add(self.south(at).and(Some(site)), 2);
-        places.add(self.south_west(at, col).and(Some(site)), 3);
+        places.add(self.north(at), Step::South);
+        places.add(self.north_east(at, col), Step::SouthWest);
+        places.add(self.west(at, col), Step::East);
+        places.add(Some(site), Step::Alone);
+        places.add(self.east(at, col).and(Some(site)), Step::East);
+        places.add(self.south(at).and(Some(site)), Step::South);
+        places.add(self.south_west(at, col).and(Some(site)), Step::SouthWest);
         places
     }
 
@@ -182,17 +184,18 @@ impl Lattice {
         self.wrap && size >= 3
     }
 
-    /// The site that a step of a pair leads to.
+    /// The neighbour to which a place's step leads.
     #[inline]
-    fn beside(&self, site: u32, step: u64) -> Option<SiteId>
+    fn beside(&self, site: u32, step: Option<Step>) -> Option<SiteId>
         requires { site < self.now.rows * self.now.cols }
-        ensures { result ≡ neighbour self.now site step }
+        ensures { result ≡ beside self.now site step }
     {
         match step {
-            1 => self.east(site, site % self.cols),
-            2 => self.south(site),
-            3 => self.south_west(site, site % self.cols),
-            _ => None,
+            None => None,
+            Some(Step::Alone) => None,
+            Some(Step::East) => self.east(site, site % self.cols),
+            Some(Step::South) => self.south(site),
+            Some(Step::SouthWest) => self.south_west(site, site % self.cols),
         }
     }
 
@@ -200,7 +203,7 @@ impl Lattice {
     fn east(&self, site: u32, col: u32) -> Option<SiteId>
         requires site { site < self.now.rows * self.now.cols }
         requires col { col ≡ site % self.now.cols }
-        ensures { result ≡ neighbour self.now site 1 }
+        ensures { result ≡ neighbour self.now site East }
     {
         let last = self.cols - 1;
         if col < last {
@@ -216,7 +219,7 @@ impl Lattice {
     #[inline]
     fn south(&self, site: u32) -> Option<SiteId>
         requires site { site < self.now.rows * self.now.cols }
-        ensures { result ≡ neighbour self.now site 2 }
+        ensures { result ≡ neighbour self.now site South }
     {
         let all = self.site_count();
         if site + self.cols < all {
@@ -232,7 +235,7 @@ impl Lattice {
     fn west(&self, site: u32, col: u32) -> Option<SiteId>
         requires site { site < self.now.rows * self.now.cols }
         requires col { col ≡ site % self.now.cols }
-        ensures { result ≡ behind self.now site 1 }
+        ensures { result ≡ behind self.now site East }
     {
         if col > 0 {
             Some(SiteId(site - 1))
@@ -247,7 +250,7 @@ impl Lattice {
     fn south_west(&self, site: u32, col: u32) -> Option<SiteId>
         requires site { site < self.now.rows * self.now.cols }
         requires col { col ≡ site % self.now.cols }
-        ensures { result ≡ neighbour self.now site 3 }
+        ensures { result ≡ neighbour self.now site SouthWest }
     {
         match self.kind {
             Kind::Square => None,
@@ -261,7 +264,7 @@ impl Lattice {
     #[inline]
     fn north(&self, site: u32) -> Option<SiteId>
         requires site { site < self.now.rows * self.now.cols }
-        ensures { result ≡ behind self.now site 2 }
+        ensures { result ≡ behind self.now site South }
     {
         if site >= self.cols {
             Some(SiteId(site - self.cols))
@@ -276,7 +279,7 @@ impl Lattice {
     fn north_east(&self, site: u32, col: u32) -> Option<SiteId>
         requires site { site < self.now.rows * self.now.cols }
         requires col { col ≡ site % self.now.cols }
-        ensures { result ≡ behind self.now site 3 }
+        ensures { result ≡ behind self.now site SouthWest }
     {
         match self.kind {
             Kind::Square => None,

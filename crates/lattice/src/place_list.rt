@@ -1,9 +1,9 @@
 //! A short list of places.
 
-ghost use Rattle.std.specs.Prelude.{◌≡◌, ◌<◌, ◌≤◌, ◌*◌, ◌^◌, IfSome, ◌+◌, ◌⊎◌, ◌↔◌, ℕ, length};
+ghost use Rattle.std.specs.Prelude.{◌≡◌, ◌<◌, ◌≤◌, ◌+◌, ◌⊎◌, ◌↔◌, ℕ, length};
 ghost use Rattle.lattice.specs.Rising.{Rise, IsListed, IsPairOf};
 
-use surf_kinds::{Place, SiteId};
+use surf_kinds::{Place, SiteId, Step};
 
 /// Up to seven places: the first `count` of the list. The others mean nothing.
 #[derive(Clone, Copy, Debug, PartialEq, Eq)]
@@ -42,11 +42,11 @@ impl PlaceList {
         self.list[at] = place;
         self.count += 1;
     }
+
     /// Puts the site's place by this step in, where there is a site.
     #[inline]
-    pub(crate) fn add(&mut self, site: Option<SiteId>, step: u64)
+    pub(crate) fn add(&mut self, site: Option<SiteId>, step: Step)
         requires room { self.old.count < 7 }
-        requires step { step < 8 }
         requires rising { Rise self.old.list self.old.count }
         requires absent { (q : ℕ) → IsPairOf site step q → IsListed self.old.list self.old.count q → ⊥ }
         ensures count { self.new.count ≤ self.old.count + 1 }
@@ -55,7 +55,7 @@ impl PlaceList {
         ensures listed { (q : ℕ) → IsListed self.new.list self.new.count q ↔ (IsListed self.old.list self.old.count q ⊎ IsPairOf site step q) }
     {
         if let Some(site) = site {
-            self.insert(Place(8 * u64::from(site.0) + step));
+            self.insert(Place::at(site, step));
         }
     }
 }

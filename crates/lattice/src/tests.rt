@@ -2,20 +2,35 @@ ghost use Rattle.std.specs.Prelude.{◌≡◌};
 
 use super::*;
 use std::test::Fail;
-use surf_kinds::{Event, Place, Rate, Rule, SiteId, SiteState, SpeciesId};
+use surf_kinds::{Event, Place, Rate, Rule, SiteId, SiteState, SpeciesId, Step};
+
+// As what a worker holds, or several share.
+fn needs_both<T: Send + Sync>(value: T) -> T
+    ensures { result ≡ value }
+{
+    value
+}
 
 // How many places of 9 sites have this step.
-fn places_by(lattice: &Lattice, step: u64) -> usize {
-    (0..72u64)
-        .filter(|&place| place % 8 == step && lattice.sites_of(Place(place)).is_some())
+fn places_by(lattice: &Lattice, step: Step) -> usize {
+    (0..9u32)
+        .filter(|&site| lattice.sites_of(Place::at(SiteId(site), step)).is_some())
         .count()
+}
+
+// Whether the number is a pair of neighbours.
+fn is_pair(lattice: &Lattice, place: u64) -> bool {
+    match lattice.sites_of(Place(place)) {
+        None => false,
+        Some(sites) => sites.second.is_some(),
+    }
 }
 
 #[test]
 fn a_dimension_of_two_does_not_wrap(rt: HostRuntime) -> Result<(), Fail> {
-    let lattice = Lattice::new(Kind::Square, 2, 2, true)?;
+    let lattice = needs_both(Lattice::new(Kind::Square, 2, 2, true)?);
     let pairs: Vec<u64> = (0..64u64)
-        .filter(|&place| place % 8 != 0 && lattice.sites_of(Place(place)).is_some())
+        .filter(|&place| is_pair(&lattice, place))
         .collect(rt.alloc())?;
     assert_eq!(rt; pairs.as_slice(), [1, 2, 10, 17].as_slice());
     Ok(())
@@ -25,7 +40,7 @@ fn a_dimension_of_two_does_not_wrap(rt: HostRuntime) -> Result<(), Fail> {
 fn a_column_of_three_wraps(rt: HostRuntime) -> Result<(), Fail> {
     let lattice = Lattice::new(Kind::Square, 3, 1, true)?;
     let pairs: Vec<u64> = (0..64u64)
-        .filter(|&place| place % 8 != 0 && lattice.sites_of(Place(place)).is_some())
+        .filter(|&place| is_pair(&lattice, place))
         .collect(rt.alloc())?;
     assert_eq!(rt; pairs.as_slice(), [2, 10, 18].as_slice());
     let sites = lattice.sites_of(Place(18)).ok_or("no place")?;
@@ -47,17 +62,38 @@ fn a_pair_is_found_from_both_its_sites(rt: HostRuntime) -> Result<(), Fail> {
 #[test]
 fn three_by_three_hexagons_have_their_pairs(rt: HostRuntime) -> Result<(), Fail> {
     let wrapped = Lattice::new(Kind::Hex, 3, 3, true)?;
-    assert_eq!(rt; places_by(&wrapped, 1), 9);
-    assert_eq!(rt; places_by(&wrapped, 2), 9);
-    assert_eq!(rt; places_by(&wrapped, 3), 9);
+    assert_eq!(rt; places_by(&wrapped, Step::East), 9);
+    assert_eq!(rt; places_by(&wrapped, Step::South), 9);
+    assert_eq!(rt; places_by(&wrapped, Step::SouthWest), 9);
     for site in 0..9 {
         let places = wrapped.places_of(SiteId(site));
         assert_eq!(rt; places.count, 7);
     }
     let flat = Lattice::new(Kind::Hex, 3, 3, false)?;
-    assert_eq!(rt; places_by(&flat, 1), 6);
-    assert_eq!(rt; places_by(&flat, 2), 6);
-    assert_eq!(rt; places_by(&flat, 3), 4);
+    assert_eq!(rt; places_by(&flat, Step::East), 6);
+    assert_eq!(rt; places_by(&flat, Step::South), 6);
+    assert_eq!(rt; places_by(&flat, Step::SouthWest), 4);
+    Ok(())
+}
+
+#[test]
+fn hexagons_have_a_neighbour_to_the_south_west(rt: HostRuntime) -> Result<(), Fail> {
+    let flat = Lattice::new(Kind::Hex, 3, 3, false)?;
+    let pair = flat
+        .sites_of(Place::at(SiteId(1), Step::SouthWest))
+        .ok_or("no place")?;
+    assert_eq!(rt; pair.second, Some(SiteId(3)));
+    // Past two edges, from the last row and the first column.
+    let wrapped = Lattice::new(Kind::Hex, 3, 3, true)?;
+    let corner = wrapped
+        .sites_of(Place::at(SiteId(6), Step::SouthWest))
+        .ok_or("no place")?;
+    assert_eq!(rt; corner.second, Some(SiteId(2)));
+    let square = Lattice::new(Kind::Square, 3, 3, true)?;
+    assert_eq!(rt;
+        square.sites_of(Place::at(SiteId(1), Step::SouthWest)),
+        None
+    );
     Ok(())
 }
 
@@ -88,7 +124,7 @@ fn a_rule_rewrites_both_sites(rt: HostRuntime) -> Result<(), Fail> {
         c: SpeciesId(0),
         d: SpeciesId(2),
     }];
-    assert!(rt; plain::stands(rules[0], 1, SpeciesId(1), Some(SpeciesId(0))));
+    assert!(rt; plain::matches(rules[0], 1, SpeciesId(1), Some(SpeciesId(0))));
     let mut sites = [fresh(1), fresh(0)];
     let event = Event {
         time: 5,

@@ -1,11 +1,12 @@
 -- The names by first appearance, and their numbers, as one more name comes.
 use Rattle.std.proofs.Common.{◌≡◌, ℕ, ◌+◌, Bool, true, false, cond, not, ◌||◌, List, [], ◌∷◌, ◌++◌, map, fold, refl, ap, ◌∙◌}
-use Rattle.std.specs.List.{list_any, position_or_len, AllByRecursion}
+use Rattle.std.specs.List.{list_any, position_or_len}
 use Rattle.std.specs.Str.{bytes_eq}
 use Rattle.std.proofs.lemmas.List.Folds.{list_any-append}
 use Rattle.std.proofs.lemmas.Slice.Eq.{bytes_eq-Decides}
 use Rattle.species.specs.Names.{with_name, place_of}
 use Rattle.surf_kinds.specs.declared.site.SpeciesId.{SpeciesId}
+use Rattle.manifest_read.specs.Names.{IsListed, AreListed}
 
 -- a place that was found stays the first one
 module _ {X : Type 0} (p : X → Bool) where
@@ -18,54 +19,46 @@ module _ {X : Type 0} (p : X → Bool) where
       by true e more = refl
       by false e more = ap (λ n. 1 + n) (more e)
 
--- the name is kept
-abbrev pub IsKept : List (List ℕ) → List ℕ → Type 0
-IsKept known name = list_any (bytes_eq name) known ≡ true
-
 any-more : (p : List ℕ → Bool) (xs : List (List ℕ)) (y : List ℕ) → list_any p xs ≡ true → list_any p (xs ++ y ∷ []) ≡ true
 any-more p xs y h = list_any-append p xs (y ∷ []) ∙ ap (λ b. b || (p y || false)) h
 
-pub place-more : (known : List (List ℕ)) (word name : List ℕ) → IsKept known name → place_of (with_name known word) name ≡ place_of known name
+pub place-more : (known : List (List ℕ)) (word name : List ℕ) → IsListed known name → place_of (with_name known word) name ≡ place_of known name
 place-more known word name h = by (list_any (bytes_eq word) known)
   where
     by : (b : Bool) → place_of (cond b known (known ++ word ∷ [])) name ≡ place_of known name
     by true = refl
     by false = ap (λ n. let i : SpeciesId = record { 0 = n } in i) (position-stays (bytes_eq name) known (word ∷ []) h)
 
-pub kept-more : (known : List (List ℕ)) (word name : List ℕ) → IsKept known name → IsKept (with_name known word) name
-kept-more known word name h = by (list_any (bytes_eq word) known)
+pub listed-more : (known : List (List ℕ)) (word name : List ℕ) → IsListed known name → IsListed (with_name known word) name
+listed-more known word name h = by (list_any (bytes_eq word) known)
   where
-    by : (b : Bool) → IsKept (cond b known (known ++ word ∷ [])) name
+    by : (b : Bool) → IsListed (cond b known (known ++ word ∷ [])) name
     by true = h
     by false = any-more (bytes_eq name) known word h
 
 same-true : (name : List ℕ) → bytes_eq name name ≡ true
 same-true name = (bytes_eq-Decides name name).1 refl
 
-pub kept-itself : (known : List (List ℕ)) (word : List ℕ) → IsKept (with_name known word) word
-kept-itself known word = by (list_any (bytes_eq word) known) refl
+pub listed-itself : (known : List (List ℕ)) (word : List ℕ) → IsListed (with_name known word) word
+listed-itself known word = by (list_any (bytes_eq word) known) refl
   where
-    by : (b : Bool) → list_any (bytes_eq word) known ≡ b → IsKept (cond b known (known ++ word ∷ [])) word
+    by : (b : Bool) → list_any (bytes_eq word) known ≡ b → IsListed (cond b known (known ++ word ∷ [])) word
     by true e = e
     by false e = list_any-append (bytes_eq word) known (word ∷ []) ∙ ap (λ b. b || (bytes_eq word word || false)) e ∙ ap (λ b. b || false) (same-true word)
 
--- the names of a list are kept
-abbrev pub AreKept : List (List ℕ) → List (List ℕ) → Type 0
-AreKept known words = AllByRecursion (IsKept known) words
+-- the names of a list are listed once they came
+pub listed-fold : (words known : List (List ℕ)) (name : List ℕ) → IsListed known name → IsListed (fold with_name known words) name
+listed-fold [] known name h = h
+listed-fold (w ∷ ws) known name h = listed-fold ws (with_name known w) name (listed-more known w name h)
 
--- the names of a list are kept once they came
-pub kept-fold : (words known : List (List ℕ)) (name : List ℕ) → IsKept known name → IsKept (fold with_name known words) name
-kept-fold [] known name h = h
-kept-fold (w ∷ ws) known name h = kept-fold ws (with_name known w) name (kept-more known w name h)
-
-pub place-fold : (words known : List (List ℕ)) (name : List ℕ) → IsKept known name → place_of (fold with_name known words) name ≡ place_of known name
+pub place-fold : (words known : List (List ℕ)) (name : List ℕ) → IsListed known name → place_of (fold with_name known words) name ≡ place_of known name
 place-fold [] known name h = refl
-place-fold (w ∷ ws) known name h = place-fold ws (with_name known w) name (kept-more known w name h) ∙ place-more known w name h
+place-fold (w ∷ ws) known name h = place-fold ws (with_name known w) name (listed-more known w name h) ∙ place-more known w name h
 
-pub places-fold : (words known names : List (List ℕ)) → AreKept known names → map (place_of (fold with_name known words)) names ≡ map (place_of known) names
+pub places-fold : (words known names : List (List ℕ)) → AreListed known names → map (place_of (fold with_name known words)) names ≡ map (place_of known) names
 places-fold words known [] h = refl
 places-fold words known (n ∷ ns) h = rw (place-fold words known n h.0, places-fold words known ns h.1) refl
 
-pub kept-words : (words known : List (List ℕ)) → AreKept (fold with_name known words) words
-kept-words [] known = tt
-kept-words (w ∷ ws) known = (kept-fold ws (with_name known w) w (kept-itself known w), kept-words ws (with_name known w))
+pub listed-words : (words known : List (List ℕ)) → AreListed (fold with_name known words) words
+listed-words [] known = tt
+listed-words (w ∷ ws) known = (listed-fold ws (with_name known w) w (listed-itself known w), listed-words ws (with_name known w))

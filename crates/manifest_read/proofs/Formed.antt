@@ -1,4 +1,4 @@
--- What is known of lines that have no fault: no count is above its limit, and all names are kept.
+-- What is known of lines that have no fault: no count is above its limit, and all names are listed.
 use Rattle.std.proofs.Common.{◌≡◌, ℕ, suc, ◌+◌, ◌*◌, ◌≤◌, Bool, true, false, cond, not, ◌&&◌, ◌||◌, ◌==◌, List, [], ◌∷◌, ◌++◌, length, fold, filter, Option, Some, None, Result, Ok, Err, refl, ap, ◌∙◌, arith}
 use Rattle.std.specs.Prelude.{nat_le, nat_lt}
 use Rattle.std.specs.List.{list_any, flat_map, slice_split, onto_first}
@@ -7,7 +7,7 @@ use Rattle.std.specs.Str.{bytes_eq}
 use Rattle.std.proofs.lemmas.Bool.Decides.{nat_tests}
 use Rattle.std.proofs.lemmas.List.{append-nil, length-append}
 use Rattle.std.proofs.lemmas.Grind.{flat_map-append}
-use Rattle.surf_text.specs.Lines.{is_blank, trim_front, trim_back, before_kept, trimmed}
+use Rattle.surf_text.specs.Lines.{is_blank, trim_front, trim_back, onto_trimmed, trimmed}
 use Rattle.surf_text.specs.Cuts.{cut_at, is_word, words_of}
 use Rattle.species.specs.Names.{with_name, is_full}
 use Rattle.manifest_read.specs.declared.section.Section.{Section}
@@ -15,13 +15,14 @@ use Rattle.manifest_read.specs.declared.section.Section.TheVariants.{Rules, Surf
 use Rattle.manifest_read.specs.declared.section.Opened.{Opened}
 use Rattle.manifest_read.specs.declared.fault.ManifestKind.{ManifestKind}
 use Rattle.manifest_read.specs.declared.fault.ManifestKind.TheVariants.{RaggedRow, TooManySites, TooManyRules, TooManySpecies, BadName, UnknownSection, NoSites}
-use Rattle.manifest_read.specs.Names.{is_name}
-use Rattle.manifest_read.specs.Rules.{SaidRule, names_of_rule, rule_of}
+use Rattle.manifest_read.specs.Names.{is_name, AreListed}
+use Rattle.manifest_read.specs.Rules.{NamedRule, names_of_rule, rule_of}
 use Rattle.manifest_read.specs.Sorts.{LineSort, Starts, Ends, Unknown, Plain, front_of, bare, sorted, section_line, sort_of}
-use Rattle.manifest_read.specs.Manifest.{Line, fault, same_section, starts, Entry, SettingEntry, RuleEntry, RowEntry, ColourEntry, NoEntry, entry_in, entry_at, Told, entry_fault, rule_fault, row_fault, is_ragged, names_fault, words_fault, start_fault, close_fault, end_fault}
-use Rattle.manifest_read.specs.Steps.{Kept, start, with_entry, with_rule, with_row, with_start, at_line, fault_at, was_seen}
-use Rattle.manifest_read.proofs.Cells.{AreKept, kept-fold, kept-words}
-use Rattle.manifest_read.proofs.Numbers.{kept-both}
+use Rattle.manifest_read.specs.Manifest.{Line, fault, same_section, starts, Entry, SettingEntry, RuleEntry, RowEntry, ColourEntry, NoEntry, entry_in, entry_at, Content, entry_fault, rule_fault, row_fault, is_ragged, names_fault, words_fault, start_fault, close_fault, end_fault}
+use Rattle.manifest_read.specs.Limits.{Area, IsWithin}
+use Rattle.manifest_read.specs.Steps.{ReaderState, start, with_entry, with_rule, with_row, with_start, at_line, fault_at, was_seen}
+use Rattle.manifest_read.proofs.Cells.{listed-fold, listed-words}
+use Rattle.manifest_read.proofs.Numbers.{listed-both}
 
 -- A line without its comment begins with a character other than a blank
 
@@ -37,7 +38,7 @@ inked-front (c ∷ cs) = by (is_blank c) refl (inked-front cs)
     by true e more = more
     by false e more = e
 
-inked_before : (c : ℕ) (rest : List ℕ) → is_blank c ≡ false → Inked (before_kept c rest)
+inked_before : (c : ℕ) (rest : List ℕ) → is_blank c ≡ false → Inked (onto_trimmed c rest)
 inked_before c [] h = by (is_blank c) h
   where
     by : (b : Bool) → b ≡ false → Inked (cond b [] (c ∷ []))
@@ -87,26 +88,13 @@ proper_by (c ∷ cs) whole h = by (c == 33)
 pub proper-line : (line : Line) → Proper (sort_of line)
 proper-line line = proper_by (bare line) (trimmed line) (inked-trimmed (front_of line (cut_at 35 line)))
 
--- What the lines told
+-- The content of the lines
 
--- the rows and columns
-pub record Area (rows cols sites : ℕ) : Type 0 where
-  pub is : sites ≡ rows * cols
-  pub full : 1 ≤ rows → 1 ≤ cols
+listed-grown : (words known names : List (List ℕ)) → AreListed known names → AreListed (fold with_name known words) names
+listed-grown words known [] h = tt
+listed-grown words known (n ∷ ns) h = (listed-fold words known n h.0, listed-grown words known ns h.1)
 
-pub record IsWithin (t : Told) : Type 0 where
-  pub area : Area t.rows t.cols (length t.cells)
-  pub sites : length t.cells ≤ 1048576
-  pub rule_count : length t.rules ≤ 4096
-  pub name_count : length t.names ≤ 4096
-  pub in_rules : AreKept t.names (flat_map names_of_rule t.rules)
-  pub in_cells : AreKept t.names t.cells
-
-kept-grown : (words known names : List (List ℕ)) → AreKept known names → AreKept (fold with_name known words) names
-kept-grown words known [] h = tt
-kept-grown words known (n ∷ ns) h = (kept-fold words known n h.0, kept-grown words known ns h.1)
-
--- names that can be kept
+-- names for which there is room
 fits_one : (known : List (List ℕ)) (name : List ℕ) → is_full known name ≡ false → length known ≤ 4096 → length (with_name known name) ≤ 4096
 fits_one known name h l = by (list_any (bytes_eq name) known) h
   where
@@ -135,7 +123,7 @@ words-fit (word ∷ words) known h l = by (is_name word) (is_full known word) re
     by true true e g more = absurd cc
     by true false e g more = more g (fits_one known word e l)
 
-rule-more : (t : Told) (r : Result SaidRule ManifestKind) → IsWithin t → rule_fault t r ≡ None → IsWithin (with_rule r t)
+rule-more : (t : Content) (r : Result NamedRule ManifestKind) → IsWithin t → rule_fault t r ≡ None → IsWithin (with_rule r t)
 rule-more t (Err kind) f h = absurd cc
 rule-more t (Ok r) f h = by (nat_le 4096 (length t.rules)) refl h
   where
@@ -151,8 +139,8 @@ rule-more t (Ok r) f h = by (nat_le 4096 (length t.rules)) refl h
           sites = f.sites;
           rule_count = grind (arith, nat_tests);
           name_count = names-fit (names_of_rule r) t.names g f.name_count;
-          in_rules = rw more (kept-both known (flat_map names_of_rule t.rules) (names_of_rule r) (kept-grown (names_of_rule r) t.names (flat_map names_of_rule t.rules) f.in_rules) (kept-words (names_of_rule r) t.names));
-          in_cells = kept-grown (names_of_rule r) t.names t.cells f.in_cells;
+          in_rules = rw more (listed-both known (flat_map names_of_rule t.rules) (names_of_rule r) (listed-grown (names_of_rule r) t.names (flat_map names_of_rule t.rules) f.in_rules) (listed-words (names_of_rule r) t.names));
+          in_cells = listed-grown (names_of_rule r) t.names t.cells f.in_cells;
         }
 
 one_row : (r w : ℕ) → (r + 1) * w ≡ r * w + w
@@ -177,7 +165,7 @@ area-more rows cols sites count a l h = by (rows == 0) refl
         let c : count ≡ cols = same (count == cols) refl h e in
         record { is = omega (arith, a.is, one_row rows cols, c); full = λ k. omega (arith, l, c) }
 
-row-more : (t : Told) (words : List (List ℕ)) → 1 ≤ length words → IsWithin t → row_fault t words ≡ None → IsWithin (with_row words t)
+row-more : (t : Content) (words : List (List ℕ)) → 1 ≤ length words → IsWithin t → row_fault t words ≡ None → IsWithin (with_row words t)
 row-more t words l f h = by (is_ragged t.rows t.cols (length words)) (nat_lt 1048576 (length t.cells + length words)) refl refl h
   where
     by : (a b : Bool) → is_ragged t.rows t.cols (length words) ≡ a → nat_lt 1048576 (length t.cells + length words) ≡ b
@@ -191,8 +179,8 @@ row-more t words l f h = by (is_ragged t.rows t.cols (length words)) (nat_lt 104
           sites = grind (arith, nat_tests);
           rule_count = f.rule_count;
           name_count = words-fit words t.names g f.name_count;
-          in_rules = kept-grown words t.names (flat_map names_of_rule t.rules) f.in_rules;
-          in_cells = kept-both (fold with_name t.names words) t.cells words (kept-grown words t.names t.cells f.in_cells) (kept-words words t.names);
+          in_rules = listed-grown words t.names (flat_map names_of_rule t.rules) f.in_rules;
+          in_cells = listed-both (fold with_name t.names words) t.cells words (listed-grown words t.names t.cells f.in_cells) (listed-words words t.names);
         }
 
 abbrev ProperEntry : Entry → Type 0
@@ -215,7 +203,7 @@ proper_at None [] whole h = tt
 proper_at None (c ∷ cs) whole h = tt
 proper_at (Some o) bare whole h = proper_in o.section bare whole h
 
-entry-more : (t : Told) (e : Entry) → ProperEntry e → IsWithin t → entry_fault t e ≡ None → IsWithin (with_entry e t)
+entry-more : (t : Content) (e : Entry) → ProperEntry e → IsWithin t → entry_fault t e ≡ None → IsWithin (with_entry e t)
 entry-more t (SettingEntry text) p f h =
     record { area = f.area; sites = f.sites; rule_count = f.rule_count; name_count = f.name_count; in_rules = f.in_rules; in_cells = f.in_cells }
 entry-more t (RuleEntry text) p f h = rule-more t (rule_of text) f h
@@ -224,13 +212,13 @@ entry-more t (ColourEntry text) p f h =
     record { area = f.area; sites = f.sites; rule_count = f.rule_count; name_count = f.name_count; in_rules = f.in_rules; in_cells = f.in_cells }
 entry-more t NoEntry p f h = f
 
-start-more : (t : Told) (s : Section) → IsWithin t → IsWithin (with_start s t)
+start-more : (t : Content) (s : Section) → IsWithin t → IsWithin (with_start s t)
 start-more t Rules f = f
 start-more t Surface f = f
 start-more t Colours f =
     record { area = f.area; sites = f.sites; rule_count = f.rule_count; name_count = f.name_count; in_rules = f.in_rules; in_cells = f.in_cells }
 
--- What is kept
+-- The state of the reader
 
 abbrev pub in_surface : Option Opened → Bool
 in_surface None = false
@@ -240,13 +228,13 @@ in_surface (Some o) = same_section Surface o.section
 abbrev pub has_rows : Option Opened → Bool → ℕ → Bool
 has_rows was seen rows = not seen || (in_surface was || nat_lt 0 rows)
 
-pub record IsFormed (k : Kept) : Type 0 where
-  pub told : IsWithin k.told
-  pub surface : has_rows k.within k.surface_seen k.told.rows ≡ true
+pub record IsFormed (k : ReaderState) : Type 0 where
+  pub content : IsWithin k.content
+  pub surface : has_rows k.within k.surface_seen k.content.rows ≡ true
 
 pub formed-start : IsFormed start
 formed-start = record {
-  told = record { area = record { is = omega arith; full = λ h. absurd (omega arith) }; sites = omega arith; rule_count = omega arith; name_count = omega arith; in_rules = tt; in_cells = tt };
+  content = record { area = record { is = omega arith; full = λ h. absurd (omega arith) }; sites = omega arith; rule_count = omega arith; name_count = omega arith; in_rules = tt; in_cells = tt };
   surface = refl;
 }
 
@@ -258,11 +246,11 @@ more_rows was true n m l h = by (in_surface was) h
     by true e = refl
     by false e = grind (arith, nat_tests)
 
-rule_rows : (t : Told) (r : Result SaidRule ManifestKind) → t.rows ≤ (with_rule r t).rows
+rule_rows : (t : Content) (r : Result NamedRule ManifestKind) → t.rows ≤ (with_rule r t).rows
 rule_rows t (Ok r) = omega arith
 rule_rows t (Err kind) = omega arith
 
-entry_rows : (t : Told) (e : Entry) → t.rows ≤ (with_entry e t).rows
+entry_rows : (t : Content) (e : Entry) → t.rows ≤ (with_entry e t).rows
 entry_rows t (SettingEntry text) = omega arith
 entry_rows t (RuleEntry text) = rule_rows t (rule_of text)
 entry_rows t (RowEntry words) = omega arith
@@ -305,19 +293,19 @@ ends_rows s n (Some o) seen rows h g = by (same_section o.section s) refl h
     by false e k = absurd cc
 
 -- a line that has no fault
-pub formed-more : (n : ℕ) (k : Kept) (sort : LineSort) → Proper sort → IsFormed k → fault_at n k sort ≡ None → IsFormed (at_line n k sort)
-formed-more n k (Starts s) p f h = record { told = start-more k.told s f.told; surface = by s (starts_rows s n k.within (was_seen k s) k.surface_seen k.told.rows h f.surface) }
+pub formed-more : (n : ℕ) (k : ReaderState) (sort : LineSort) → Proper sort → IsFormed k → fault_at n k sort ≡ None → IsFormed (at_line n k sort)
+formed-more n k (Starts s) p f h = record { content = start-more k.content s f.content; surface = by s (starts_rows s n k.within (was_seen k s) k.surface_seen k.content.rows h f.surface) }
   where
-    by : (t : Section) → has_rows (Some (record { section = t; line = n })) (starts Surface (Starts t) || k.surface_seen) k.told.rows ≡ true
-        → has_rows (Some (record { section = t; line = n })) (starts Surface (Starts t) || k.surface_seen) (with_start t k.told).rows ≡ true
+    by : (t : Section) → has_rows (Some (record { section = t; line = n })) (starts Surface (Starts t) || k.surface_seen) k.content.rows ≡ true
+        → has_rows (Some (record { section = t; line = n })) (starts Surface (Starts t) || k.surface_seen) (with_start t k.content).rows ≡ true
     by Rules e = e
     by Surface e = e
     by Colours e = e
-formed-more n k (Ends s) p f h = record { told = f.told; surface = ends_rows s n k.within k.surface_seen k.told.rows h f.surface }
+formed-more n k (Ends s) p f h = record { content = f.content; surface = ends_rows s n k.within k.surface_seen k.content.rows h f.surface }
 formed-more n k Unknown p f h = absurd cc
 formed-more n k (Plain bare whole) p f h =
     let e = entry_at k.within (Plain bare whole) in
     record {
-      told = entry-more k.told e (proper_at k.within bare whole p) f.told (no_kind (entry_fault k.told e) n h);
-      surface = more_rows k.within k.surface_seen k.told.rows (with_entry e k.told).rows (entry_rows k.told e) f.surface;
+      content = entry-more k.content e (proper_at k.within bare whole p) f.content (no_kind (entry_fault k.content e) n h);
+      surface = more_rows k.within k.surface_seen k.content.rows (with_entry e k.content).rows (entry_rows k.content e) f.surface;
     }

@@ -1,14 +1,14 @@
-pub mod Summary
-pub mod Joined
-pub mod Arrows
-pub mod WordLists
-pub mod Pieces
-pub mod Cells
-pub mod Numbers
-pub mod Stays
-pub mod Renumbered
-pub mod LastSaid
-pub mod Taken
-pub mod Formed
-pub mod Soundness
-pub mod Outcomes
+mod Summary
+mod Joined
+mod Arrows
+mod Pieces
+mod Cells
+mod Numbers
+mod Stays
+mod Renumbered
+mod LastSettings
+mod Taken
+mod Formed
+mod Soundness
+mod Outcomes
+pub mod LawLemmas

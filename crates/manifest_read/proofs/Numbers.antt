@@ -12,35 +12,36 @@ use Rattle.std.proofs.lemmas.Map.Made.{length-le_from_is_member}
 use Rattle.std.proofs.lemmas.Slice.Eq.{bytes_eq-Decides}
 use Rattle.species.specs.Names.{with_name, is_full}
 use Rattle.manifest_read.specs.declared.fault.ManifestKind.TheVariants.{TooManySpecies}
-use Rattle.manifest_read.specs.Rules.{SaidRule, SaidOne, SaidTwo, names_of_rule}
+use Rattle.manifest_read.specs.Rules.{NamedRule, NamedOne, NamedTwo, names_of_rule}
 use Rattle.manifest_read.specs.Manifest.{first_seen, numbered, names_fault}
-use Rattle.manifest_read.proofs.Cells.{IsKept, AreKept, place-fold, kept-words}
+use Rattle.manifest_read.specs.Names.{IsListed, AreListed}
+use Rattle.manifest_read.proofs.Cells.{place-fold, listed-words}
 
-pub kept-left : (known xs ys : List (List ℕ)) → AreKept known (xs ++ ys) → AreKept known xs
-kept-left known [] ys h = tt
-kept-left known (x ∷ xs) ys h = (h.0, kept-left known xs ys h.1)
+pub listed-left : (known xs ys : List (List ℕ)) → AreListed known (xs ++ ys) → AreListed known xs
+listed-left known [] ys h = tt
+listed-left known (x ∷ xs) ys h = (h.0, listed-left known xs ys h.1)
 
-pub kept-right : (known xs ys : List (List ℕ)) → AreKept known (xs ++ ys) → AreKept known ys
-kept-right known [] ys h = h
-kept-right known (x ∷ xs) ys h = kept-right known xs ys h.1
+pub listed-right : (known xs ys : List (List ℕ)) → AreListed known (xs ++ ys) → AreListed known ys
+listed-right known [] ys h = h
+listed-right known (x ∷ xs) ys h = listed-right known xs ys h.1
 
-pub kept-both : (known xs ys : List (List ℕ)) → AreKept known xs → AreKept known ys → AreKept known (xs ++ ys)
-kept-both known [] ys h g = g
-kept-both known (x ∷ xs) ys h g = (h.0, kept-both known xs ys h.1 g)
+pub listed-both : (known xs ys : List (List ℕ)) → AreListed known xs → AreListed known ys → AreListed known (xs ++ ys)
+listed-both known [] ys h g = g
+listed-both known (x ∷ xs) ys h g = (h.0, listed-both known xs ys h.1 g)
 
-pub numbered-fold : (names known : List (List ℕ)) (r : SaidRule) → AreKept known (names_of_rule r) → numbered (fold with_name known names) r ≡ numbered known r
-numbered-fold names known (SaidOne rate a c) h = rw (place-fold names known a h.0, place-fold names known c h.1.0) refl
-numbered-fold names known (SaidTwo rate a b c d) h =
+pub numbered-fold : (names known : List (List ℕ)) (r : NamedRule) → AreListed known (names_of_rule r) → numbered (fold with_name known names) r ≡ numbered known r
+numbered-fold names known (NamedOne rate a c) h = rw (place-fold names known a h.0, place-fold names known c h.1.0) refl
+numbered-fold names known (NamedTwo rate a b c d) h =
     rw (place-fold names known a h.0, place-fold names known b h.1.0, place-fold names known c h.1.1.0, place-fold names known d h.1.1.1.0) refl
 
-pub rules-fold : (names known : List (List ℕ)) (rules : List SaidRule) → AreKept known (flat_map names_of_rule rules)
+pub rules-fold : (names known : List (List ℕ)) (rules : List NamedRule) → AreListed known (flat_map names_of_rule rules)
     → map (numbered (fold with_name known names)) rules ≡ map (numbered known) rules
 rules-fold names known [] h = refl
 rules-fold names known (r ∷ rs) h =
-    rw (numbered-fold names known r (kept-left known (names_of_rule r) (flat_map names_of_rule rs) h), rules-fold names known rs (kept-right known (names_of_rule r) (flat_map names_of_rule rs) h)) refl
+    rw (numbered-fold names known r (listed-left known (names_of_rule r) (flat_map names_of_rule rs) h), rules-fold names known rs (listed-right known (names_of_rule r) (flat_map names_of_rule rs) h)) refl
 
-pub kept-seen : (words : List (List ℕ)) → AreKept (first_seen words) words
-kept-seen words = kept-words words []
+pub listed-seen : (words : List (List ℕ)) → AreListed (first_seen words) words
+listed-seen words = listed-words words []
 
 pub seen-append : (xs ys : List (List ℕ)) → first_seen (xs ++ ys) ≡ fold with_name (first_seen xs) ys
 seen-append xs ys = fold-append with_name [] xs ys
@@ -80,7 +81,7 @@ no_names : IsDistinct bytes_eq []
 unfolding IsDistinct
 no_names = tt
 
-one_more : (start : List (List ℕ)) (word q : List ℕ) → IsKept (with_name start word) q → (list_any (bytes_eq q) start || bytes_eq q word) ≡ true
+one_more : (start : List (List ℕ)) (word q : List ℕ) → IsListed (with_name start word) q → (list_any (bytes_eq q) start || bytes_eq q word) ≡ true
 one_more start word q h = by (list_any (bytes_eq word) start) h
   where
     last : (a b : Bool) → (a || (b || false)) ≡ true → (a || b) ≡ true
@@ -92,25 +93,25 @@ one_more start word q h = by (list_any (bytes_eq word) start) h
     first true b e = refl
     first false b e = absurd cc
 
-    by : (b : Bool) → IsKept (cond b start (start ++ word ∷ [])) q → (list_any (bytes_eq q) start || bytes_eq q word) ≡ true
+    by : (b : Bool) → IsListed (cond b start (start ++ word ∷ [])) q → (list_any (bytes_eq q) start || bytes_eq q word) ≡ true
     by true e = first (list_any (bytes_eq q) start) (bytes_eq q word) e
     by false e = last (list_any (bytes_eq q) start) (bytes_eq q word) (sym (list_any-append (bytes_eq q) start (word ∷ [])) ∙ e)
 
-kept-all : (words start known : List (List ℕ)) → ((q : List ℕ) → IsKept start q → IsKept known q) → AreKept known words
-    → (q : List ℕ) → IsKept (fold with_name start words) q → IsKept known q
-kept-all [] start known h g q e = h q e
-kept-all (w ∷ ws) start known h g q e = kept-all ws (with_name start w) known (λ x k. by x (list_any (bytes_eq x) start) (bytes_eq x w) refl refl (one_more start w x k)) g.1 q e
+listed-all : (words start known : List (List ℕ)) → ((q : List ℕ) → IsListed start q → IsListed known q) → AreListed known words
+    → (q : List ℕ) → IsListed (fold with_name start words) q → IsListed known q
+listed-all [] start known h g q e = h q e
+listed-all (w ∷ ws) start known h g q e = listed-all ws (with_name start w) known (λ x k. by x (list_any (bytes_eq x) start) (bytes_eq x w) refl refl (one_more start w x k)) g.1 q e
   where
-    by : (x : List ℕ) (a b : Bool) → list_any (bytes_eq x) start ≡ a → bytes_eq x w ≡ b → (a || b) ≡ true → IsKept known x
+    by : (x : List ℕ) (a b : Bool) → list_any (bytes_eq x) start ≡ a → bytes_eq x w ≡ b → (a || b) ≡ true → IsListed known x
     by x true b i j k = h x i
-    by x false true i j k = subst (IsKept known) (sym (same x w j)) g.0
+    by x false true i j k = subst (IsListed known) (sym (same x w j)) g.0
     by x false false i j k = absurd cc
 
 -- the names of words that are known
-pub few-seen : (words known : List (List ℕ)) → AreKept known words → length (first_seen words) ≤ length known
-few-seen words known h = length-le_from_is_member laws (first_seen words) known (distinct-fold words [] no_names) (λ q e. kept-all words [] known (λ x k. absurd cc) h q e)
+pub few-seen : (words known : List (List ℕ)) → AreListed known words → length (first_seen words) ≤ length known
+few-seen words known h = length-le_from_is_member laws (first_seen words) known (distinct-fold words [] no_names) (λ q e. listed-all words [] known (λ x k. absurd cc) h q e)
 
-pub never-full : (words known : List (List ℕ)) (name : List ℕ) → AreKept known (words ++ name ∷ []) → length known ≤ 4096 → is_full (first_seen words) name ≡ false
+pub never-full : (words known : List (List ℕ)) (name : List ℕ) → AreListed known (words ++ name ∷ []) → length known ≤ 4096 → is_full (first_seen words) name ≡ false
 never-full words known name h l = by (list_any (bytes_eq name) (first_seen words)) refl
   where
     by : (b : Bool) → list_any (bytes_eq name) (first_seen words) ≡ b → (not b && length (first_seen words) == 4096) ≡ false
@@ -122,11 +123,11 @@ never-full words known name h l = by (list_any (bytes_eq name) (first_seen words
         = omega (arith, ap length grown, length-append (first_seen words) (name ∷ []), few-seen (words ++ name ∷ []) known h, l) in
         grind (arith, nat_tests)
 
-pub never-many : (names words known : List (List ℕ)) → AreKept known (words ++ names) → length known ≤ 4096 → names_fault names (first_seen words) ≡ None
+pub never-many : (names words known : List (List ℕ)) → AreListed known (words ++ names) → length known ≤ 4096 → names_fault names (first_seen words) ≡ None
 never-many [] words known h l = refl
 never-many (name ∷ names) words known h l =
-    let here : AreKept known ((words ++ name ∷ []) ++ names) = subst (AreKept known) (sym (append_assoc words (name ∷ []) names)) h in
-    let first : is_full (first_seen words) name ≡ false = never-full words known name (kept-left known (words ++ name ∷ []) names here) l in
+    let here : AreListed known ((words ++ name ∷ []) ++ names) = subst (AreListed known) (sym (append_assoc words (name ∷ []) names)) h in
+    let first : is_full (first_seen words) name ≡ false = never-full words known name (listed-left known (words ++ name ∷ []) names here) l in
     let rest : names_fault names (first_seen (words ++ name ∷ [])) ≡ None = never-many names (words ++ name ∷ []) known here l in
     ap (λ b. cond b (Some TooManySpecies) (names_fault names (with_name (first_seen words) name))) first
     ∙ ap (names_fault names) (sym (seen-append words (name ∷ []))) ∙ rest

@@ -5,12 +5,12 @@ use Rattle.std.proofs.lemmas.Bool.Decides.{nat_tests}
 use Rattle.surf_kinds.specs.Rates.{Fraction}
 use Rattle.surf_text.specs.Lines.{trimmed}
 use Rattle.surf_text.specs.Cuts.{cut_at}
-use Rattle.surf_text.proofs.Places.{split-cut, pieces_by}
+use Rattle.surf_text.proofs.LawLemmas.{split-cut, pieces_by}
 use Rattle.manifest_read.specs.declared.fault.ManifestKind.{ManifestKind}
 use Rattle.manifest_read.specs.declared.fault.ManifestKind.TheVariants.{BadRule}
 use Rattle.manifest_read.specs.Names.{is_name, cut_arrow}
-use Rattle.manifest_read.specs.Rules.{SaidRule, side_of, by_arity, by_sides, by_arrow, by_bracket, rule_of}
-use Rattle.manifest_read.specs.Seen.{SaidSide, SideOne, SideTwo, SideMany, counted, sided, by_counts}
+use Rattle.manifest_read.specs.Rules.{NamedRule, side_of, by_arity, by_sides, by_arrow, by_bracket, rule_of}
+use Rattle.manifest_read.specs.Seen.{NamedSide, SideOne, SideTwo, SideMany, counted, sided, by_counts}
 
 -- a side that is cut at its first plus
 pub side-cut : (text front back : List ℕ) → Some (front, back) ≡ cut_at 43 text → side_of text ≡ trimmed front ∷ side_of back
@@ -63,8 +63,8 @@ arity-is rate (a ∷ b ∷ []) (c ∷ d ∷ []) = refl
 arity-is rate (a ∷ b ∷ []) (c ∷ d ∷ e ∷ es) = refl
 arity-is rate (a ∷ b ∷ x ∷ xs) right = refl
 
--- what a rule says, by its sides
-abbrev pub by_sided : Fraction → Option SaidSide → Option SaidSide → Result SaidRule ManifestKind
+-- a rule by its sides
+abbrev pub by_sided : Fraction → Option NamedSide → Option NamedSide → Result NamedRule ManifestKind
 by_sided rate None right = Err BadRule
 by_sided rate (Some a) None = Err BadRule
 by_sided rate (Some a) (Some b) = by_counts rate a b
@@ -77,7 +77,7 @@ sides-are rate left right = by (list_all is_name left) (list_all is_name right)
     by true false = refl
     by false b = refl
 
--- what a rule says, by its first character
+-- a rule by its first character
 pub no-bracket : (text : List ℕ) → ((rest : List ℕ) → text ≢ 40 ∷ rest) → by_arrow (record { p = 1; q = 1 }) (cut_arrow text) ≡ rule_of text
 no-bracket [] h = refl
 no-bracket (c ∷ cs) h = by (c == 40) refl
@@ -86,7 +86,7 @@ no-bracket (c ∷ cs) h = by (c == 40) refl
     by true e = let same : c ≡ 40 = grind (arith, nat_tests) in absurd (h cs (ap (λ x. x ∷ cs) same))
     by false e = refl
 
-pub sides-arrow : (rate : Fraction) (text left right : List ℕ) (a b : Option SaidSide)
+pub sides-arrow : (rate : Fraction) (text left right : List ℕ) (a b : Option NamedSide)
     → Some (left, right) ≡ cut_arrow text → a ≡ sided (side_of left) → b ≡ sided (side_of right) → by_sided rate a b ≡ by_arrow rate (cut_arrow text)
 sides-arrow rate text left right a b e f g =
     ap (λ x. by_sided rate x b) f ∙ ap (by_sided rate (sided (side_of left))) g ∙ sym (sides-are rate (side_of left) (side_of right)) ∙ ap (by_arrow rate) e

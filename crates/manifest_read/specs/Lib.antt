@@ -1,11 +1,12 @@
+pub mod Faults
 pub mod Names
 pub mod Rules
 pub mod Sorts
 pub mod Settings
 pub mod Manifest
-pub mod Canon
 pub mod Sound
+pub mod Limits
 pub mod Steps
-pub mod Spoken
+pub mod CollectedView
 pub mod Seen
 pub mod Views

@@ -1,7 +1,7 @@
 -- The manifest of a text, or its first fault.
 --
 -- The text is a list of lines. The verdict of a line depends on the line and on the lines before it, which stand here with
--- the nearest first; what these tell is settings, rules, rows and colours, each kind filtered from the whole list.
+-- the nearest first; their content is settings, rules, rows and colours, each kind filtered from the whole list.
 use Rattle.std.specs.Prelude.{◌≡◌, ℕ, ◌+◌, Bool, true, false, not, ◌&&◌, List, [], ◌∷◌, ◌++◌, map, fold, length, drop, Option, Some, None, Result, Ok, Err, nat_eq, nat_le, nat_lt, ◌==◌, if◌then◌else◌}
 use Rattle.std.specs.List.{list_any, filter_map, flat_map, starts_with}
 use Rattle.std.specs.Option.{option_map}
@@ -21,8 +21,8 @@ use Rattle.manifest_read.specs.declared.fault.ManifestKind.TheVariants.{NotUtf8,
 use Rattle.manifest_read.specs.declared.fault.ManifestFault.{ManifestFault}
 use Rattle.manifest_read.specs.declared.manifest.Manifest.{Manifest}
 use Rattle.manifest_read.specs.Names.{is_name}
-use Rattle.manifest_read.specs.Rules.{SaidRule, SaidOne, SaidTwo, names_of_rule, rule_of}
-use Rattle.manifest_read.specs.Settings.{Known, known_in, setting_of, setting_fault}
+use Rattle.manifest_read.specs.Rules.{NamedRule, NamedOne, NamedTwo, names_of_rule, rule_of}
+use Rattle.manifest_read.specs.Settings.{SettingValues, setting_values, setting_of, setting_fault}
 use Rattle.manifest_read.specs.Sorts.{LineSort, Starts, Ends, Unknown, Plain, sort_of}
 
 abbrev pub Line : Type 0
@@ -99,7 +99,7 @@ abbrev pub ok : {A B : Type 0} → Result A B → Option A
 ok (Ok x) = Some x
 ok (Err e) = None
 
-abbrev pub rule_in : Entry → Option SaidRule
+abbrev pub rule_in : Entry → Option NamedRule
 rule_in (RuleEntry text) = ok (rule_of text)
 rule_in entry = None
 
@@ -111,13 +111,13 @@ abbrev pub colour_in : Entry → Option (List ℕ)
 colour_in (ColourEntry text) = Some text
 colour_in entry = None
 
--- the names of species that an entry says, from left to right
-abbrev pub names_of_said : Option SaidRule → List (List ℕ)
-names_of_said None = []
-names_of_said (Some r) = names_of_rule r
+-- the names of species in an entry, from left to right
+abbrev pub names_of_named : Option NamedRule → List (List ℕ)
+names_of_named None = []
+names_of_named (Some r) = names_of_rule r
 
 abbrev pub names_in : Entry → List (List ℕ)
-names_in (RuleEntry text) = names_of_said (ok (rule_of text))
+names_in (RuleEntry text) = names_of_named (ok (rule_of text))
 names_in (RowEntry words) = words
 names_in entry = []
 
@@ -130,11 +130,11 @@ abbrev pub width_of : List (List (List ℕ)) → ℕ
 width_of [] = 0
 width_of (row ∷ rows) = length row
 
--- What the lines tell
+-- The content of lines
 
-pub record Told : Type 0 where
+pub record Content : Type 0 where
   pub settings : List Setting
-  pub rules : List SaidRule
+  pub rules : List NamedRule
   -- the number of rows, and of names in the first of them
   pub rows : ℕ
   pub cols : ℕ
@@ -144,8 +144,8 @@ pub record Told : Type 0 where
   pub names : List (List ℕ)
   pub colours : Option (List (List ℕ))
 
-abbrev pub told_by : List Entry → Bool → Told
-told_by entries coloured = record {
+abbrev pub content_by : List Entry → Bool → Content
+content_by entries coloured = record {
   settings = filter_map setting_in entries;
   rules = filter_map rule_in entries;
   rows = length (filter_map row_in entries);
@@ -155,8 +155,8 @@ told_by entries coloured = record {
   colours = if coloured then Some (filter_map colour_in entries) else None;
 }
 
-abbrev pub told : List Line → Told
-told lines = told_by (entries_of lines) (was_started Colours lines)
+abbrev pub content_of : List Line → Content
+content_of lines = content_by (entries_of lines) (was_started Colours lines)
 
 -- Verdicts
 
@@ -165,7 +165,7 @@ abbrev pub unless : {A F : Type 0} → Option F → Result A F → Result A F
 unless None r = r
 unless (Some f) r = Err f
 
--- names of a rule, where these were said before: at most 4,096 are known
+-- names of a rule, where these are known: at most 4,096 are
 abbrev pub names_fault : List (List ℕ) → List (List ℕ) → Option ManifestKind
 names_fault [] known = None
 names_fault (name ∷ names) known = if is_full known name then Some TooManySpecies else names_fault names (with_name known name)
@@ -178,7 +178,7 @@ words_fault (word ∷ words) known =
     else (if is_full known word then Some TooManySpecies
     else words_fault words (with_name known word))
 
-abbrev pub rule_fault : Told → Result SaidRule ManifestKind → Option ManifestKind
+abbrev pub rule_fault : Content → Result NamedRule ManifestKind → Option ManifestKind
 rule_fault t (Err kind) = Some kind
 rule_fault t (Ok r) = if nat_le 4096 (length t.rules) then Some TooManyRules else names_fault (names_of_rule r) t.names
 
@@ -186,13 +186,13 @@ rule_fault t (Ok r) = if nat_le 4096 (length t.rules) then Some TooManyRules els
 abbrev pub is_ragged : ℕ → ℕ → ℕ → Bool
 is_ragged rows cols count = nat_lt 0 rows && not (count == cols)
 
-abbrev pub row_fault : Told → List (List ℕ) → Option ManifestKind
+abbrev pub row_fault : Content → List (List ℕ) → Option ManifestKind
 row_fault t words =
     if is_ragged t.rows t.cols (length words) then Some RaggedRow
     else (if nat_lt 1048576 (length t.cells + length words) then Some TooManySites
     else words_fault words t.names)
 
-abbrev pub entry_fault : Told → Entry → Option ManifestKind
+abbrev pub entry_fault : Content → Entry → Option ManifestKind
 entry_fault t (SettingEntry text) = setting_fault (map (λ s. s.name) t.settings) (setting_of text)
 entry_fault t (RuleEntry text) = rule_fault t (rule_of text)
 entry_fault t (RowEntry words) = row_fault t words
@@ -217,10 +217,10 @@ close_fault s rows line (Some o) =
 -- the verdict of a line of this sort with its number, after these lines
 abbrev pub fault_of : List Line → ℕ → LineSort → Option ManifestFault
 fault_of before line (Starts s) = start_fault (was_started s before) line (open_of before)
-fault_of before line (Ends s) = close_fault s (told before).rows line (open_of before)
+fault_of before line (Ends s) = close_fault s (content_of before).rows line (open_of before)
 fault_of before line Unknown = Some (fault UnknownSection line)
 fault_of before line (Plain bare whole) =
-    option_map (λ kind. fault kind line) (entry_fault (told before) (entry_at (open_of before) (Plain bare whole)))
+    option_map (λ kind. fault kind line) (entry_fault (content_of before) (entry_at (open_of before) (Plain bare whole)))
 
 abbrev pub verdict : List Line → Line → Option ManifestFault
 verdict before line = fault_of before (length before + 1) (sort_of line)
@@ -235,12 +235,12 @@ end_verdict lines = end_verdict_of (open_of lines) (was_started Surface lines) (
 
 -- The manifest
 
-abbrev pub numbered : List (List ℕ) → SaidRule → Rule
-numbered names (SaidOne rate a c) = One rate (place_of names a) (place_of names c)
-numbered names (SaidTwo rate a b c d) = Two rate (place_of names a) (place_of names b) (place_of names c) (place_of names d)
+abbrev pub numbered : List (List ℕ) → NamedRule → Rule
+numbered names (NamedOne rate a c) = One rate (place_of names a) (place_of names c)
+numbered names (NamedTwo rate a b c d) = Two rate (place_of names a) (place_of names b) (place_of names c) (place_of names d)
 
 -- with the species by these names
-abbrev pub manifest_with : List (List ℕ) → Told → Known → Manifest
+abbrev pub manifest_with : List (List ℕ) → Content → SettingValues → Manifest
 manifest_with names t k = record {
   seed = k.seed;
   until = k.until;
@@ -253,19 +253,19 @@ manifest_with names t k = record {
 }
 
 -- the names of the species are those of all rules, and then those of all rows, by first appearance
-abbrev pub manifest_by : Told → Manifest
-manifest_by t = manifest_with (first_seen (flat_map names_of_rule t.rules ++ t.cells)) t (known_in t.settings)
+abbrev pub manifest_by : Content → Manifest
+manifest_by t = manifest_with (first_seen (flat_map names_of_rule t.rules ++ t.cells)) t (setting_values t.settings)
 
 -- the manifest of the lines, which stand behind others, or their first fault
 unfoldable pub outcome : List Line → List Line → Result Manifest ManifestFault
-outcome [] before = unless (end_verdict before) (Ok (manifest_by (told before)))
+outcome [] before = unless (end_verdict before) (Ok (manifest_by (content_of before)))
 outcome (line ∷ lines) before = unless (verdict before line) (outcome lines (line ∷ before))
 
 -- the mark of the byte order goes
 abbrev pub unmarked : List ℕ → List ℕ
 unmarked text = if starts_with nat_eq text (239 ∷ 187 ∷ 191 ∷ []) then drop 3 text else text
 
--- the manifest of a text, or its first fault; of a text that isn't UTF-8 it tells how many bytes are
+-- the manifest of a text, or its first fault; of a text that isn't UTF-8 the number is how many of its bytes are
 abbrev pub manifest_of : List ℕ → Result Manifest ManifestFault
 manifest_of text = if is_utf8 text then outcome (lines_of (unmarked text)) [] else Err (fault NotUtf8 (utf8_valid_len text))
 

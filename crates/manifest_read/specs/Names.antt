@@ -1,6 +1,7 @@
 -- Names of species.
-use Rattle.std.specs.Prelude.{ℕ, Bool, false, not, ◌&&◌, ◌||◌, List, [], ◌∷◌, drop, Option, Some, None, is_none, nat_eq, ◌==◌, if◌then◌else◌, codes}
-use Rattle.std.specs.List.{list_all, starts_with}
+use Rattle.std.specs.Prelude.{◌≡◌, ℕ, Bool, true, false, not, ◌&&◌, ◌||◌, List, [], ◌∷◌, drop, Option, Some, None, is_none, nat_eq, ◌==◌, if◌then◌else◌, codes}
+use Rattle.std.specs.List.{list_all, list_any, starts_with, AllByRecursion}
+use Rattle.std.specs.Str.{bytes_eq}
 use Rattle.surf_text.specs.Lines.{is_blank}
 use Rattle.surf_text.specs.Cuts.{with_front}
 
@@ -20,3 +21,11 @@ is_name_front (c ∷ cs) = not (c == 33 || c == 40)
 
 abbrev pub is_name : List ℕ → Bool
 is_name text = is_name_front text && (list_all is_name_byte text && is_none (cut_arrow text))
+
+-- the name is one of these
+abbrev pub IsListed : List (List ℕ) → List ℕ → Type 0
+IsListed known name = list_any (bytes_eq name) known ≡ true
+
+-- the names of a list are among these
+abbrev pub AreListed : List (List ℕ) → List (List ℕ) → Type 0
+AreListed known words = AllByRecursion (IsListed known) words

@@ -1,4 +1,4 @@
--- What the reader's values say.
+-- The views of what the reader cuts out of a line.
 use Rattle.std.specs.Prelude.{ℕ, List, [], ◌∷◌, Option, Some, None, Result, Ok, Err, if◌then◌else◌}
 use Rattle.std.specs.List.{list_all}
 use Rattle.std.specs.Borrow.{Bor}
@@ -13,41 +13,41 @@ use Rattle.manifest_read.specs.declared.rules.Side.TheVariants as sides
 use Rattle.manifest_read.specs.declared.sort.Sort.{Sort}
 use Rattle.manifest_read.specs.declared.sort.Sort.TheVariants as sorts
 use Rattle.manifest_read.specs.Names.{is_name}
-use Rattle.manifest_read.specs.Rules.{SaidRule, SaidOne, SaidTwo}
+use Rattle.manifest_read.specs.Rules.{NamedRule, NamedOne, NamedTwo}
 use Rattle.manifest_read.specs.Sorts.{LineSort, Starts, Ends, Unknown, Plain}
 
 -- Rules
 
-abbrev pub said_by : RuleText → SaidRule
-said_by (rules.One rate a c) = SaidOne rate a.now c.now
-said_by (rules.Two rate a b c d) = SaidTwo rate a.now b.now c.now d.now
+abbrev pub named_rule_of : RuleText → NamedRule
+named_rule_of (rules.One rate a c) = NamedOne rate a.now c.now
+named_rule_of (rules.Two rate a b c d) = NamedTwo rate a.now b.now c.now d.now
 
-abbrev pub said_of : Result RuleText ManifestKind → Result SaidRule ManifestKind
-said_of (Ok rule) = Ok (said_by rule)
-said_of (Err kind) = Err kind
+abbrev pub named_result_of : Result RuleText ManifestKind → Result NamedRule ManifestKind
+named_result_of (Ok rule) = Ok (named_rule_of rule)
+named_result_of (Err kind) = Err kind
 
 -- the pieces of a side, as many as a rule may have
-pub data SaidSide : Type 0 where
-  SideOne : (a : List ℕ) → SaidSide
-  SideTwo : (a b : List ℕ) → SaidSide
-  SideMany : SaidSide
+pub data NamedSide : Type 0 where
+  SideOne : (a : List ℕ) → NamedSide
+  SideTwo : (a b : List ℕ) → NamedSide
+  SideMany : NamedSide
 
-abbrev pub side_by : Side → SaidSide
+abbrev pub side_by : Side → NamedSide
 side_by (sides.One a) = SideOne a.now
 side_by (sides.Two a b) = SideTwo a.now b.now
 side_by sides.Many = SideMany
 
-abbrev pub counted : List (List ℕ) → SaidSide
+abbrev pub counted : List (List ℕ) → NamedSide
 counted (a ∷ []) = SideOne a
 counted (a ∷ b ∷ []) = SideTwo a b
 counted pieces = SideMany
 
-abbrev pub sided : List (List ℕ) → Option SaidSide
+abbrev pub sided : List (List ℕ) → Option NamedSide
 sided pieces = if list_all is_name pieces then Some (counted pieces) else None
 
-abbrev pub by_counts : Fraction → SaidSide → SaidSide → Result SaidRule ManifestKind
-by_counts rate (SideOne a) (SideOne c) = Ok (SaidOne rate a c)
-by_counts rate (SideTwo a b) (SideTwo c d) = Ok (SaidTwo rate a b c d)
+abbrev pub by_counts : Fraction → NamedSide → NamedSide → Result NamedRule ManifestKind
+by_counts rate (SideOne a) (SideOne c) = Ok (NamedOne rate a c)
+by_counts rate (SideTwo a b) (SideTwo c d) = Ok (NamedTwo rate a b c d)
 by_counts rate left right = Err BadArity
 
 -- Settings

@@ -1,4 +1,4 @@
--- Settings, and what they say.
+-- Settings and their values.
 use Rattle.std.specs.Prelude.{ℕ, Bool, true, false, not, ◌&&◌, ◌||◌, List, [], ◌∷◌, filter, Option, Some, None, is_none, if◌then◌else◌, codes}
 use Rattle.std.specs.List.{filter_map, list_any}
 use Rattle.std.specs.Str.{bytes_eq}
@@ -36,16 +36,24 @@ is_lattice name = bytes_eq name (codes "lattice")
 abbrev pub is_wrap : List ℕ → Bool
 is_wrap name = bytes_eq name (codes "wrap")
 
+abbrev pub kind_text : Kind → List ℕ
+kind_text Square = codes "square"
+kind_text Hex = codes "hex"
+
+abbrev pub bool_text : Bool → List ℕ
+bool_text true = codes "true"
+bool_text false = codes "false"
+
 abbrev pub kind_of : List ℕ → Option Kind
-kind_of value = if bytes_eq value (codes "square") then Some Square else (if bytes_eq value (codes "hex") then Some Hex else None)
+kind_of value = if bytes_eq value (kind_text Square) then Some Square else (if bytes_eq value (kind_text Hex) then Some Hex else None)
 
 abbrev pub wrap_of : List ℕ → Option Bool
 wrap_of value =
-    if bytes_eq value (codes "true") || bytes_eq value (codes "True") then Some true
-    else (if bytes_eq value (codes "false") || bytes_eq value (codes "False") then Some false
+    if bytes_eq value (bool_text true) || bytes_eq value (codes "True") then Some true
+    else (if bytes_eq value (bool_text false) || bytes_eq value (codes "False") then Some false
     else None)
 
--- what a setting with a meaning says
+-- the value of a setting with a meaning
 
 abbrev pub seed_in : Setting → Option ℕ
 seed_in s = if is_seed s.name then u64_of s.value else None
@@ -59,25 +67,25 @@ kind_in s = if is_lattice s.name then kind_of s.value else None
 abbrev pub wrap_in : Setting → Option Bool
 wrap_in s = if is_wrap s.name then wrap_of s.value else None
 
--- the settings without a meaning are kept as they are
+-- the settings without a meaning stay as they are
 abbrev pub is_other : Setting → Bool
 is_other s = not (is_seed s.name || (is_duration s.name || (is_lattice s.name || is_wrap s.name)))
 
--- the value that was said last, or the default
+-- the last value, or the default
 abbrev pub last_or : {A : Type 0} → A → List A → A
 last_or default [] = default
 last_or default (x ∷ xs) = last_or x xs
 
--- what the settings of a manifest say; 100 units of a million ticks are the duration where none is said
-pub record Known : Type 0 where
+-- the values of the settings of a manifest; 100 units of a million ticks are the duration where there is none
+pub record SettingValues : Type 0 where
   pub seed : ℕ
   pub until : ℕ
   pub kind : Kind
   pub wrap : Bool
   pub others : List Setting
 
-abbrev pub known_in : List Setting → Known
-known_in settings = record {
+abbrev pub setting_values : List Setting → SettingValues
+setting_values settings = record {
   seed = last_or 0 (filter_map seed_in settings);
   until = last_or 100000000 (filter_map duration_in settings);
   kind = last_or Square (filter_map kind_in settings);

@@ -1,24 +1,25 @@
-//! What the lines of a manifest told so far.
+//! The content of the lines that were read.
 
 ghost use Rattle.std.specs.Prelude.{◌≡◌, ◌<◌, ◌+◌, ◌^◌, ◌&&◌, ◌==◌, not, nat_lt, IfOk, if◌then◌else◌};
 ghost use Rattle.surf_text.specs.Cuts.{words_of};
 ghost use Rattle.manifest_read.specs.Manifest.{SettingEntry, RuleEntry, RowEntry, ColourEntry, entry_at, is_ragged, manifest_by};
 ghost use Rattle.lattice.specs.Shape.{IsSize};
 ghost use Rattle.manifest_read.specs.Sorts.{Plain};
-ghost use Rattle.manifest_read.specs.Views.{told_of, Enters, entered, start_told, text_at, form_at, Fills, cells_said};
+ghost use Rattle.manifest_read.specs.Views.{content_so_far, Enters, entered, start_content, text_at, form_at, Fills, cells_collected};
 
+use crate::collected::Collected;
 use crate::fault::ManifestKind;
 use crate::manifest::{LineList, Manifest};
-use crate::names::{Words, count_words, is_name};
+use crate::names::{count_words, is_name};
 use crate::rules::read_rule;
-use crate::said::Said;
 use crate::section::{Opened, Section};
-use crate::settings::{SaidSettings, setting_parts, value_fault};
+use crate::settings::{SettingList, setting_parts, value_fault};
 use crate::text::Text;
 use lattice::Lattice;
 use species::NameError;
 use std::alloc::Global;
 use surf_kinds::NoMemory;
+use surf_text::Words;
 
 const MOST_RULES: usize = 4096;
 
@@ -32,11 +33,11 @@ pub(crate) enum Refusal {
     Memory,
 }
 
-/// What the lines told so far.
+/// The content of the lines that were read.
 #[derive(Drop)]
-pub(crate) struct Content {
-    pub(crate) settings: SaidSettings,
-    pub(crate) said: Said,
+pub(crate) struct ContentBuilder {
+    pub(crate) settings: SettingList,
+    pub(crate) collected: Collected,
     pub(crate) rows: usize,
     /// The number of names in a row.
     pub(crate) cols: usize,
@@ -66,15 +67,15 @@ fn row_width(rows: usize, cols: usize, count: usize) -> usize
 }
 
 /// Takes the names of a row.
-fn take_cells(said: &mut Said, text: &str) -> Result<(), Refusal>
-    ensures { Fills result said.new (cells_said (words_of text.now) said.old) }
+fn take_cells(collected: &mut Collected, text: &str) -> Result<(), Refusal>
+    ensures { Fills result collected.new (cells_collected (words_of text.now) collected.old) }
 {
     let mut words = Words::new(text);
     while let Some(word) = words.next_word() {
         if !is_name(word) {
             return Err(Refusal::Kind(ManifestKind::BadName));
         }
-        match said.cell(word) {
+        match collected.cell(word) {
             Ok(()) => {}
             Err(NameError::TooMany) => return Err(Refusal::Kind(ManifestKind::TooManySpecies)),
             Err(NameError::Memory) => return Err(Refusal::Memory),
@@ -83,14 +84,14 @@ fn take_cells(said: &mut Said, text: &str) -> Result<(), Refusal>
     Ok(())
 }
 
-impl Content {
+impl ContentBuilder {
     /// Nothing.
-    pub(crate) fn new(alloc: Global) -> Content
-        ensures { told_of result ≡ start_told }
+    pub(crate) fn new(alloc: Global) -> ContentBuilder
+        ensures { content_so_far result ≡ start_content }
     {
-        Content {
-            settings: SaidSettings::new(alloc),
-            said: Said::new(alloc),
+        ContentBuilder {
+            settings: SettingList::new(alloc),
+            collected: Collected::new(alloc),
             rows: 0,
             cols: 0,
             colours: None,
@@ -98,7 +99,7 @@ impl Content {
     }
 
     fn setting(&mut self, alloc: Global, text: &str) -> Result<(), Refusal>
-        ensures entered { Enters result (told_of self.new) (entered (told_of self.old) (SettingEntry text.now)) }
+        ensures entered { Enters result (content_so_far self.new) (entered (content_so_far self.old) (SettingEntry text.now)) }
     {
         let Some((name, value)) = setting_parts(text) else {
             return Err(Refusal::Kind(ManifestKind::BadSetting));
@@ -116,16 +117,16 @@ impl Content {
     }
 
     fn rule(&mut self, text: &str) -> Result<(), Refusal>
-        ensures entered { Enters result (told_of self.new) (entered (told_of self.old) (RuleEntry text.now)) }
+        ensures entered { Enters result (content_so_far self.new) (entered (content_so_far self.old) (RuleEntry text.now)) }
     {
         let rule = match read_rule(text) {
             Ok(rule) => rule,
             Err(kind) => return Err(Refusal::Kind(kind)),
         };
-        if self.said.rule_count() >= MOST_RULES {
+        if self.collected.rule_count() >= MOST_RULES {
             return Err(Refusal::Kind(ManifestKind::TooManyRules));
         }
-        match self.said.rule(&rule) {
+        match self.collected.rule(&rule) {
             Ok(()) => Ok(()),
             Err(NameError::TooMany) => Err(Refusal::Kind(ManifestKind::TooManySpecies)),
             Err(NameError::Memory) => Err(Refusal::Memory),
@@ -134,16 +135,16 @@ impl Content {
 
     fn row(&mut self, text: &str) -> Result<(), Refusal>
         requires { self.old.rows < 2 ^ 63 }
-        ensures entered { Enters result (told_of self.new) (entered (told_of self.old) (RowEntry (words_of text.now))) }
+        ensures entered { Enters result (content_so_far self.new) (entered (content_so_far self.old) (RowEntry (words_of text.now))) }
     {
         let count = count_words(text);
         if is_ragged(self.rows, self.cols, count) {
             return Err(Refusal::Kind(ManifestKind::RaggedRow));
         }
-        if is_too_wide(self.said.cell_count(), count) {
+        if is_too_wide(self.collected.cell_count(), count) {
             return Err(Refusal::Kind(ManifestKind::TooManySites));
         }
-        match take_cells(&mut self.said, text) {
+        match take_cells(&mut self.collected, text) {
             Ok(()) => {}
             Err(refusal) => return Err(refusal),
         }
@@ -153,7 +154,7 @@ impl Content {
     }
 
     fn colour(&mut self, alloc: Global, text: &str) -> Result<(), Refusal>
-        ensures entered { Enters result (told_of self.new) (entered (told_of self.old) (ColourEntry text.now)) }
+        ensures entered { Enters result (content_so_far self.new) (entered (content_so_far self.old) (ColourEntry text.now)) }
     {
         let Ok(line) = Text::new(alloc, text) else {
             return Err(Refusal::Memory);
@@ -174,7 +175,7 @@ impl Content {
         text: &str,
     ) -> Result<(), Refusal>
         requires { self.old.rows < 2 ^ 63 }
-        ensures entered { Enters result (told_of self.new) (entered (told_of self.old) (form_at within text.now)) }
+        ensures entered { Enters result (content_so_far self.new) (entered (content_so_far self.old) (form_at within text.now)) }
     {
         let Some(opened) = within else {
             return self.setting(alloc, text);
@@ -195,7 +196,7 @@ impl Content {
         whole: &str,
     ) -> Result<(), Refusal>
         requires { self.old.rows < 2 ^ 63 }
-        ensures entered { Enters result (told_of self.new) (entered (told_of self.old) (entry_at within (Plain bare.now whole.now))) }
+        ensures entered { Enters result (content_so_far self.new) (entered (content_so_far self.old) (entry_at within (Plain bare.now whole.now))) }
     {
         let text = entry_text(within, bare, whole);
         if text.is_empty() {
@@ -215,26 +216,23 @@ fn entry_text<'a>(within: Option<Opened>, bare: &'a str, whole: &'a str) -> &'a 
     }
 }
 
-/// The manifest that the lines told.
-pub(crate) fn finished(alloc: Global, content: Content) -> Result<Manifest, NoMemory>
+/// The manifest with the content of all lines.
+pub(crate) fn finished(alloc: Global, content: ContentBuilder) -> Result<Manifest, NoMemory>
     requires { IsSize content.rows content.cols }
-    ensures { IfOk result (λ m. m ≡ manifest_by (told_of content)) }
+    ensures { IfOk result (λ m. m ≡ manifest_by (content_so_far content)) }
 {
-    let known = content.settings.known();
-    let numbered = match content.said.numbered(alloc) {
-        Ok(numbered) => numbered,
-        Err(error) => return Err(error),
-    };
+    let values = content.settings.values();
+    let numbered = content.collected.numbered(alloc)?;
     let rows = content.rows as u32;
     let cols = content.cols as u32;
-    let Ok(lattice) = Lattice::new(known.kind, rows, cols, known.wrap) else {
+    let Ok(lattice) = Lattice::new(values.kind, rows, cols, values.wrap) else {
         unreachable!()
     };
     Ok(Manifest {
-        seed: known.seed,
-        until: known.until,
+        seed: values.seed,
+        until: values.until,
         lattice,
-        others: known.others,
+        others: values.others,
         names: numbered.names,
         rules: numbered.rules,
         cells: numbered.cells,

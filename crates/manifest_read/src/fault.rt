@@ -1,5 +1,8 @@
 //! What is wrong with a manifest.
 
+ghost use Rattle.std.specs.Prelude.{◌≡◌};
+ghost use Rattle.manifest_read.specs.Faults.{manifest_kind_text, unit_text};
+
 /// The kinds of faults.
 #[derive(Clone, Copy, Debug, PartialEq, Eq)]
 pub enum ManifestKind {
@@ -43,6 +46,46 @@ pub enum ManifestKind {
     TooManyRules,
     /// More than 4,096 species.
     TooManySpecies,
+}
+
+impl ManifestKind {
+    /// The name of the kind, as messages have it.
+    pub fn name(self) -> &'static str
+        ensures { result.now ≡ manifest_kind_text self }
+    {
+        match self {
+            ManifestKind::NotUtf8 => "NotUtf8",
+            ManifestKind::UnknownSection => "UnknownSection",
+            ManifestKind::SectionTwice => "SectionTwice",
+            ManifestKind::SectionOpen => "SectionOpen",
+            ManifestKind::SectionMissing => "SectionMissing",
+            ManifestKind::BadSetting => "BadSetting",
+            ManifestKind::SettingTwice => "SettingTwice",
+            ManifestKind::BadSeed => "BadSeed",
+            ManifestKind::BadDuration => "BadDuration",
+            ManifestKind::BadLattice => "BadLattice",
+            ManifestKind::BadWrap => "BadWrap",
+            ManifestKind::BadRate => "BadRate",
+            ManifestKind::BadRule => "BadRule",
+            ManifestKind::BadArity => "BadArity",
+            ManifestKind::RaggedRow => "RaggedRow",
+            ManifestKind::BadName => "BadName",
+            ManifestKind::NoSites => "NoSites",
+            ManifestKind::TooManySites => "TooManySites",
+            ManifestKind::TooManyRules => "TooManyRules",
+            ManifestKind::TooManySpecies => "TooManySpecies",
+        }
+    }
+
+    /// What the number of a fault of this kind counts.
+    pub fn unit(self) -> &'static str
+        ensures { result.now ≡ unit_text self }
+    {
+        match self {
+            ManifestKind::NotUtf8 => "byte",
+            _ => "line",
+        }
+    }
 }
 
 /// The first fault of a manifest.

@@ -31,7 +31,7 @@ impl<T: Drop> Items<T> {
     }
 
     /// The values of a vector.
-    pub(crate) fn of(items: Vec<T>) -> Items<T>
+    pub fn of(items: Vec<T>) -> Items<T>
         ensures { result ≡ items.items }
     {
         Items { items }
@@ -42,10 +42,8 @@ impl<T: Drop> Items<T> {
         ensures ok { OnOk result (self.new ≡ self.old ++ item ∷ []) }
         ensures err { OnErr result (self.new ≡ self.old) }
     {
-        match self.items.push(item) {
-            Ok(()) => Ok(()),
-            Err(_) => Err(NoMemory),
-        }
+        self.items.push(item)?;
+        Ok(())
     }
 
     /// The values.

@@ -1,4 +1,4 @@
-//! What a manifest says.
+//! Manifests.
 
 use crate::items::Items;
 use crate::text::{Setting, Text};
@@ -18,7 +18,7 @@ pub type CellList = Items<SpeciesId>;
 /// Lines, in the order of the text.
 pub type LineList = Items<Text>;
 
-/// What a manifest says.
+/// A manifest.
 #[derive(Drop)]
 pub struct Manifest {
     /// Of the draws.

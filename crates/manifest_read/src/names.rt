@@ -1,13 +1,12 @@
-//! Names, arrows and words in a text.
+//! Names, and arrows in a text.
 
-ghost use Rattle.std.specs.Prelude.{◌≡◌, ◌↔◌, ◌∷◌, [], length, IsNone, IfSome, MatchOption};
+ghost use Rattle.std.specs.Prelude.{◌≡◌, length};
 ghost use Rattle.std.specs.List.{list_all};
 ghost use Rattle.std.specs.Option.{option_map};
 ghost use Rattle.surf_text.specs.Cuts.{words_of};
 ghost use Rattle.manifest_read.specs.Names.{cut_arrow, is_name_byte, is_name_front, is_name};
 
-use std::marker::Model;
-use surf_text::cut_blank;
+use surf_text::Words;
 
 /// What stands before the first arrow, and what stands after it; `None` where there is no arrow.
 pub(crate) fn cut_arrow(text: &str) -> Option<(&str, &str)>
@@ -48,61 +47,6 @@ pub(crate) fn is_name(text: &str) -> bool
         return false;
     }
     cut_arrow(text).is_none()
-}
-
-/// The first word of a text, and what stands after it; `None` where there is no word.
-fn first_word(text: &str) -> Option<(&str, &str)>
-    ensures { MatchOption result (words_of text.now ≡ []) (λ p. words_of text.now ≡ p.0.now ∷ words_of p.1.now) }
-{
-    let mut rest = text;
-    while let Some((word, after)) = cut_blank(rest) {
-        if !word.is_empty() {
-            return Some((word, after));
-        }
-        rest = after;
-    }
-    if rest.is_empty() {
-        return None;
-    }
-    Some((rest, ""))
-}
-
-/// The words of a text that are left. Blanks stand between them.
-#[derive(Drop)]
-pub(crate) struct Words<'a> {
-    rest: &'a str,
-}
-
-impl<'a> Model for Words<'a> {
-    ghost use Rattle.std.specs.Prelude.{ℕ, List};
-    ghost use Rattle.surf_text.specs.Cuts.{words_of};
-
-    ghost Value = { List (List ℕ) };
-
-    ghost view = { λ w. words_of w.rest.now };
-}
-
-impl<'a> Words<'a> {
-    /// The words of a text.
-    pub(crate) fn new(text: &'a str) -> Words<'a>
-        ensures { result ≡ words_of text.now }
-    {
-        Words { rest: text }
-    }
-
-    /// The next word; `None` exactly where none is left.
-    pub(crate) fn next_word(&mut self) -> Option<&'a str>
-        ensures none { IsNone result ↔ (self.old ≡ []) }
-        ensures word { IfSome result (λ word. self.old ≡ word.now ∷ self.new) }
-    {
-        match first_word(self.rest) {
-            Some((word, rest)) => {
-                self.rest = rest;
-                Some(word)
-            }
-            None => None,
-        }
-    }
 }
 
 /// How many words there are.

@@ -6,14 +6,14 @@ ghost use Rattle.species.specs.declared.names.NameError.TheVariants.{TooMany};
 ghost use Rattle.manifest_read.specs.declared.fault.ManifestKind.TheVariants.{TooManySpecies};
 ghost use Rattle.manifest_read.specs.Manifest.{names_fault, numbered};
 ghost use Rattle.manifest_read.specs.Rules.{names_of_rule};
-ghost use Rattle.manifest_read.specs.Seen.{said_by};
-ghost use Rattle.manifest_read.specs.Spoken.{Grows};
+ghost use Rattle.manifest_read.specs.Seen.{named_rule_of};
+ghost use Rattle.manifest_read.specs.CollectedView.{Grows};
 
 use crate::rules::RuleText;
 use species::{NameError, Names};
 use surf_kinds::{Rule, SpeciesId};
 
-/// The number of a name, which is kept.
+/// The number of a name, which goes last if it is new.
 fn number(names: &mut Names, name: &str) -> Result<SpeciesId, NameError>
     ensures place { IfOk result (λ id. id ≡ place_of names.new name.now) }
     ensures names { OnOk result (names.new ≡ with_name names.old name.now) }
@@ -24,7 +24,7 @@ fn number(names: &mut Names, name: &str) -> Result<SpeciesId, NameError>
     names.intern(name)
 }
 
-/// The numbers of two names, which are kept in their order.
+/// The numbers of two names; a new one goes last, in their order.
 fn both(names: &mut Names, a: &str, b: &str) -> Result<(SpeciesId, SpeciesId), NameError>
     ensures first { IfOk result (λ p. p.0 ≡ place_of names.new a.now) }
     ensures second { IfOk result (λ p. p.1 ≡ place_of names.new b.now) }
@@ -44,12 +44,12 @@ fn both(names: &mut Names, a: &str, b: &str) -> Result<(SpeciesId, SpeciesId), N
     Ok((first, second))
 }
 
-/// A rule by the numbers of its names, which are kept from the left to the right.
+/// A rule by the numbers of its names; new ones go last, from the left to the right.
 pub(crate) fn number_rule(names: &mut Names, rule: &RuleText<'_>) -> Result<Rule, NameError>
-    ensures rule { IfOk result (λ r. r ≡ numbered names.new (said_by rule.now)) }
-    ensures names { OnOk result (names.new ≡ fold with_name names.old (names_of_rule (said_by rule.now))) }
-    ensures room { OnOk result (names_fault (names_of_rule (said_by rule.now)) names.old ≡ None) }
-    ensures full { result ≡ Err TooMany → names_fault (names_of_rule (said_by rule.now)) names.old ≡ Some TooManySpecies }
+    ensures rule { IfOk result (λ r. r ≡ numbered names.new (named_rule_of rule.now)) }
+    ensures names { OnOk result (names.new ≡ fold with_name names.old (names_of_rule (named_rule_of rule.now))) }
+    ensures room { OnOk result (names_fault (names_of_rule (named_rule_of rule.now)) names.old ≡ None) }
+    ensures full { result ≡ Err TooMany → names_fault (names_of_rule (named_rule_of rule.now)) names.old ≡ Some TooManySpecies }
     ensures grown { Grows names.old names.new }
 {
     match *rule {

@@ -1,4 +1,4 @@
-//! Rules as lines say them.
+//! Rules as lines.
 
 ghost use Rattle.std.specs.Prelude.{◌≡◌};
 ghost use Rattle.std.specs.List.{list_all};
@@ -6,7 +6,7 @@ ghost use Rattle.std.specs.Option.{option_map};
 ghost use Rattle.surf_text.specs.Cuts.{cut_at};
 ghost use Rattle.manifest_read.specs.Names.{is_name, cut_arrow};
 ghost use Rattle.manifest_read.specs.Rules.{side_of, by_arrow, by_bracket, rule_of};
-ghost use Rattle.manifest_read.specs.Seen.{said_of, side_by, counted, sided, by_counts};
+ghost use Rattle.manifest_read.specs.Seen.{named_result_of, side_by, counted, sided, by_counts};
 
 use crate::fault::ManifestKind;
 use crate::names::{cut_arrow, is_name};
@@ -77,7 +77,7 @@ fn read_side(text: &str) -> Option<Side<'_>>
 }
 
 fn by_sides<'a>(rate: Rate, left: Side<'a>, right: Side<'a>) -> Result<RuleText<'a>, ManifestKind>
-    ensures { said_of result ≡ by_counts rate (side_by left.entry) (side_by right.entry) }
+    ensures { named_result_of result ≡ by_counts rate (side_by left.entry) (side_by right.entry) }
 {
     match left {
         Side::One(a) => match right {
@@ -93,7 +93,7 @@ fn by_sides<'a>(rate: Rate, left: Side<'a>, right: Side<'a>) -> Result<RuleText<
 }
 
 fn by_arrow(rate: Rate, text: &str) -> Result<RuleText<'_>, ManifestKind>
-    ensures { said_of result ≡ by_arrow rate (cut_arrow text.now) }
+    ensures { named_result_of result ≡ by_arrow rate (cut_arrow text.now) }
 {
     let Some((left, right)) = cut_arrow(text) else {
         return Err(ManifestKind::BadRule);
@@ -109,7 +109,7 @@ fn by_arrow(rate: Rate, text: &str) -> Result<RuleText<'_>, ManifestKind>
 
 /// The rule of a text that stands behind an opening bracket.
 fn by_bracket(text: &str) -> Result<RuleText<'_>, ManifestKind>
-    ensures { said_of result ≡ by_bracket (cut_at 41 text.now) }
+    ensures { named_result_of result ≡ by_bracket (cut_at 41 text.now) }
 {
     let Some((rate, rest)) = cut_text(text, b')') else {
         return Err(ManifestKind::BadRate);
@@ -120,10 +120,10 @@ fn by_bracket(text: &str) -> Result<RuleText<'_>, ManifestKind>
     by_arrow(rate, rest)
 }
 
-/// The rule that a line says; the rate is 1 where none is said.
-#[tactic(auto, using(surf_kinds::proofs::Wholes::whole_reduced))]
+/// The rule of a line; the rate is 1 where there is none.
+#[tactic(auto, using(surf_kinds::proofs::Fractions::whole_reduced))]
 pub(crate) fn read_rule(text: &str) -> Result<RuleText<'_>, ManifestKind>
-    ensures { said_of result ≡ rule_of text.now }
+    ensures { named_result_of result ≡ rule_of text.now }
 {
     match text.strip_prefix('(') {
         Some(rest) => by_bracket(rest),

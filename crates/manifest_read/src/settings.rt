@@ -1,11 +1,11 @@
-//! The settings that were said, and what they say.
+//! The settings that were read, and their values.
 
 ghost use Rattle.std.specs.Prelude.{◌≡◌, ◌++◌, ◌∷◌, [], false, map, filter, OnOk};
 ghost use Rattle.std.specs.List.{list_any};
 ghost use Rattle.std.specs.Option.{option_map};
 ghost use Rattle.std.specs.Str.{bytes_eq};
 ghost use Rattle.manifest_read.specs.Seen.{setting_by};
-ghost use Rattle.manifest_read.specs.Settings.{setting_of, is_seed, is_duration, is_lattice, is_wrap, kind_of, wrap_of, seed_in, duration_in, kind_in, wrap_in, is_other, known_in, value_fault};
+ghost use Rattle.manifest_read.specs.Settings.{setting_of, is_seed, is_duration, is_lattice, is_wrap, kind_text, bool_text, kind_of, wrap_of, seed_in, duration_in, kind_in, wrap_in, is_other, setting_values, value_fault};
 
 use crate::fault::ManifestKind;
 use crate::items::Items;
@@ -19,7 +19,7 @@ use std::marker::Model;
 use surf_kinds::NoMemory;
 use surf_text::{cut_text, read_u64, trim_text};
 
-/// In ticks, where no duration is said: 100 units of a million ticks.
+/// In ticks, where there is no duration: 100 units of a million ticks.
 const DURATION: u64 = 100_000_000;
 
 /// The name and the value of a setting; `None` where there is no name.
@@ -58,12 +58,29 @@ fn is_wrap(name: &str) -> bool
     name == "wrap"
 }
 
+/// How a manifest spells a kind of lattice.
+pub fn kind_name(kind: Kind) -> &'static str
+    ensures { result.now ≡ kind_text kind }
+{
+    match kind {
+        Kind::Square => "square",
+        Kind::Hex => "hex",
+    }
+}
+
+/// How a manifest spells a truth value; `True` and `False` are read too.
+pub fn bool_name(value: bool) -> &'static str
+    ensures { result.now ≡ bool_text value }
+{
+    if value { "true" } else { "false" }
+}
+
 fn read_kind(value: &str) -> Option<Kind>
     ensures { result ≡ kind_of value.now }
 {
-    if value == "square" {
+    if value == kind_name(Kind::Square) {
         Some(Kind::Square)
-    } else if value == "hex" {
+    } else if value == kind_name(Kind::Hex) {
         Some(Kind::Hex)
     } else {
         None
@@ -73,9 +90,9 @@ fn read_kind(value: &str) -> Option<Kind>
 fn read_wrap(value: &str) -> Option<bool>
     ensures { result ≡ wrap_of value.now }
 {
-    if value == "true" || value == "True" {
+    if value == bool_name(true) || value == "True" {
         Some(true)
-    } else if value == "false" || value == "False" {
+    } else if value == bool_name(false) || value == "False" {
         Some(false)
     } else {
         None
@@ -155,9 +172,9 @@ fn others_of(settings: Vec<Setting>) -> Settings
     Items::of(others)
 }
 
-/// What settings say.
+/// The values of settings.
 #[derive(Drop)]
-pub(crate) struct Known {
+pub(crate) struct SettingValues {
     pub(crate) seed: u64,
     pub(crate) until: u64,
     pub(crate) kind: Kind,
@@ -167,12 +184,12 @@ pub(crate) struct Known {
 
 /// The settings so far, in their order.
 #[derive(Drop)]
-pub(crate) struct SaidSettings {
+pub(crate) struct SettingList {
     names: Texts,
     items: Vec<Setting>,
 }
 
-impl Model for SaidSettings {
+impl Model for SettingList {
     ghost use Rattle.std.specs.Prelude.{List, map, ◌≡◌};
     ghost use Rattle.manifest_read.specs.declared.text.Setting.{Setting};
 
@@ -183,11 +200,11 @@ impl Model for SaidSettings {
     ghost invariant = { λ s. s.names ≡ map (λ x. x.name) s.items.items };
 }
 
-impl SaidSettings {
-    pub(crate) fn new(alloc: Global) -> SaidSettings
+impl SettingList {
+    pub(crate) fn new(alloc: Global) -> SettingList
         ensures { result ≡ [] }
     {
-        SaidSettings {
+        SettingList {
             names: Texts::new(alloc),
             items: Vec::new(alloc),
         }
@@ -210,9 +227,7 @@ impl SaidSettings {
             value: Text::new(alloc, value)?,
         };
         // So that the names stay those of the settings whatever fails.
-        let Ok(()) = self.items.reserve(1) else {
-            return Err(NoMemory);
-        };
+        self.items.reserve(1)?;
         self.names.add(name)?;
         let Ok(()) = self.items.push(setting) else {
             unreachable!()
@@ -220,9 +235,9 @@ impl SaidSettings {
         Ok(())
     }
 
-    /// What the settings say.
-    pub(crate) fn known(self) -> Known
-        ensures { record { seed = result.seed; until = result.until; kind = result.kind; wrap = result.wrap; others = result.others } ≡ known_in self }
+    /// The values of the settings.
+    pub(crate) fn values(self) -> SettingValues
+        ensures { record { seed = result.seed; until = result.until; kind = result.kind; wrap = result.wrap; others = result.others } ≡ setting_values self }
     {
         let mut seed = 0;
         let mut until = DURATION;
@@ -234,7 +249,7 @@ impl SaidSettings {
             kind = kind_in(setting).unwrap_or(kind);
             wrap = wrap_in(setting).unwrap_or(wrap);
         }
-        Known {
+        SettingValues {
             seed,
             until,
             kind,

@@ -5,23 +5,23 @@ ghost use Rattle.manifest_read.specs.declared.fault.ManifestError.TheVariants.{F
 ghost use Rattle.manifest_read.specs.Manifest.{fault};
 ghost use Rattle.manifest_read.specs.Sorts.{Starts, Ends, Plain};
 ghost use Rattle.manifest_read.specs.Steps.{start, was_seen, by_sort, next, ended};
-ghost use Rattle.manifest_read.specs.Views.{kept, Takes, Gives, IsShaped};
+ghost use Rattle.manifest_read.specs.Views.{reader_state, Takes, Gives, IsShaped};
 
-use crate::content::{Content, Refusal, finished};
+use crate::content::{ContentBuilder, Refusal, finished};
 use crate::fault::{ManifestError, ManifestFault, ManifestKind};
 use crate::manifest::{LineList, Manifest};
 use crate::section::{Opened, Section};
 use crate::sort::{Sort, sort_line};
 use std::alloc::Global;
 
-/// What is kept of the lines that were read.
+/// The state of the reader after the lines that it read.
 #[derive(Drop)]
 pub(crate) struct State {
     pub(crate) lines: u64,
     pub(crate) within: Option<Opened>,
     pub(crate) rules_seen: bool,
     pub(crate) surface_seen: bool,
-    pub(crate) content: Content,
+    pub(crate) content: ContentBuilder,
 }
 
 fn refuse<T>(kind: ManifestKind, at: u64) -> Result<T, ManifestError>
@@ -33,19 +33,19 @@ fn refuse<T>(kind: ManifestKind, at: u64) -> Result<T, ManifestError>
 impl State {
     /// Before the first line.
     pub(crate) fn new(alloc: Global) -> State
-        ensures { kept result ≡ start }
+        ensures { reader_state result ≡ start }
     {
         State {
             lines: 0,
             within: None,
             rules_seen: false,
             surface_seen: false,
-            content: Content::new(alloc),
+            content: ContentBuilder::new(alloc),
         }
     }
 
     fn was_seen(&self, section: Section) -> bool
-        ensures { result ≡ was_seen (kept self.now) section }
+        ensures { result ≡ was_seen (reader_state self.now) section }
     {
         match section {
             Section::Rules => self.rules_seen,
@@ -56,7 +56,7 @@ impl State {
 
     /// Takes the start of a section.
     fn begin(&mut self, alloc: Global, section: Section) -> Result<(), ManifestError>
-        ensures outcome { Takes result (kept self.new) (by_sort self.old.lines (kept self.old) (Starts section)) }
+        ensures outcome { Takes result (reader_state self.new) (by_sort self.old.lines (reader_state self.old) (Starts section)) }
     {
         if let Some(opened) = self.within {
             return refuse(ManifestKind::SectionOpen, opened.line);
@@ -78,7 +78,7 @@ impl State {
 
     /// Takes the end of a section.
     fn finish(&mut self, section: Section) -> Result<(), ManifestError>
-        ensures outcome { Takes result (kept self.new) (by_sort self.old.lines (kept self.old) (Ends section)) }
+        ensures outcome { Takes result (reader_state self.new) (by_sort self.old.lines (reader_state self.old) (Ends section)) }
     {
         let Some(opened) = self.within else {
             return refuse(ManifestKind::UnknownSection, self.lines);
@@ -96,7 +96,7 @@ impl State {
     /// Takes a line that is no section line.
     fn plain(&mut self, alloc: Global, bare: &str, whole: &str) -> Result<(), ManifestError>
         requires { self.old.content.rows < 2 ^ 63 }
-        ensures outcome { Takes result (kept self.new) (by_sort self.old.lines (kept self.old) (Plain bare.now whole.now)) }
+        ensures outcome { Takes result (reader_state self.new) (by_sort self.old.lines (reader_state self.old) (Plain bare.now whole.now)) }
     {
         match self.content.enter(alloc, self.within, bare, whole) {
             Ok(()) => Ok(()),
@@ -109,7 +109,7 @@ impl State {
     pub(crate) fn take(&mut self, alloc: Global, line: &str) -> Result<(), ManifestError>
         requires lines { self.old.lines + 1 < 2 ^ 64 }
         requires rows { self.old.content.rows < 2 ^ 63 }
-        ensures outcome { Takes result (kept self.new) (next (kept self.old) line.now) }
+        ensures outcome { Takes result (reader_state self.new) (next (reader_state self.old) line.now) }
     {
         self.lines += 1;
         match sort_line(line) {
@@ -123,8 +123,8 @@ impl State {
     /// The manifest of all the lines.
     pub(crate) fn end(self, alloc: Global) -> Result<Manifest, ManifestError>
         requires lines { self.lines + 1 < 2 ^ 64 }
-        requires shape { IsShaped (kept self) }
-        ensures { Gives result (ended (kept self)) }
+        requires shape { IsShaped (reader_state self) }
+        ensures { Gives result (ended (reader_state self)) }
     {
         if let Some(opened) = self.within {
             return refuse(ManifestKind::SectionOpen, opened.line);

@@ -4,7 +4,8 @@ use std::alloc::Global;
 use std::test::Fail;
 use surf_kinds::{Rate, Rule, SpeciesId};
 
-fn needs_sync<T: Sync>(value: T) -> T {
+/// A value that workers may share and hand on.
+fn shared<T: Send + Sync>(value: T) -> T {
     value
 }
 
@@ -28,7 +29,7 @@ const DEMO: &[u8] =
 
 #[test]
 fn a_manifest_is_read_whole(rt: HostRuntime) -> Result<(), Fail> {
-    let read = needs_sync(read_manifest(rt.alloc(), DEMO)?);
+    let read = shared(read_manifest(rt.alloc(), DEMO)?);
     assert_eq!(rt; read.seed, 7);
     assert_eq!(rt; read.until, 2_500_000);
     assert!(rt; read.lattice.kind() == Kind::Square);
@@ -228,16 +229,16 @@ fn no_more_than_4096_rules_and_names_are_read(rt: HostRuntime) -> Result<(), Fai
 }
 
 #[test]
-fn lists_and_texts_are_kept(rt: HostRuntime) -> Result<(), Fail> {
+fn lists_and_texts_have_what_was_put_in(rt: HostRuntime) -> Result<(), Fail> {
     let alloc = rt.alloc();
     let mut settings = Settings::new(alloc);
     settings.push(Setting {
         name: Text::new(alloc, "pixels_per_node")?,
         value: Text::new(alloc, "5")?,
     })?;
-    let kept = settings.as_slice();
-    assert_eq!(rt; kept.len(), 1);
-    assert_eq!(rt; kept[0].name.as_str(), "pixels_per_node");
-    assert_eq!(rt; kept[0].value.as_str(), "5");
+    let items = settings.as_slice();
+    assert_eq!(rt; items.len(), 1);
+    assert_eq!(rt; items[0].name.as_str(), "pixels_per_node");
+    assert_eq!(rt; items[0].value.as_str(), "5");
     Ok(())
 }

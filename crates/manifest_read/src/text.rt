@@ -26,10 +26,9 @@ impl Text {
     pub fn new(alloc: Global, text: &str) -> Result<Text, NoMemory>
         ensures { IfOk result (λ t. t ≡ text.now) }
     {
-        let Ok(text) = String::from_str(alloc, text) else {
-            return Err(NoMemory);
-        };
-        Ok(Text { text })
+        Ok(Text {
+            text: String::from_str(alloc, text)?,
+        })
     }
 
     /// The text.
@@ -40,7 +39,7 @@ impl Text {
     }
 }
 
-/// A setting that is kept as it was said.
+/// A setting as it was written.
 #[derive(Drop)]
 pub struct Setting {
     pub name: Text,

@@ -1,26 +1,6 @@
-pub mod Loops
-pub mod Forms
-pub mod Zeros
-pub mod Bytes
-pub mod Tight
-pub mod Parted
-pub mod Numbers
-pub mod Fits
-pub mod NameTexts
-pub mod LineSorts
-pub mod RuleLines
-pub mod Reaching
-pub mod Room
-pub mod Blocks
-pub mod Grid
-pub mod Known
-pub mod Clean
-pub mod Told
-pub mod Texts
-pub mod Whole
-pub mod Spelled
-pub mod PlainLines
-pub mod RuleTexts
-pub mod Wording
-pub mod Valid
-pub mod OneSpelling
+mod Cutting
+mod Spellings
+mod Lines
+mod Contents
+mod Again
+pub mod LawLemmas

@@ -10,7 +10,7 @@ mod laws;
 mod pieces;
 mod writing;
 
-pub use laws::{one_spelling, read_again};
+pub use laws::{made_is_read, one_spelling, read_again};
 pub use writing::write_manifest;
 
 #[cfg(test)]

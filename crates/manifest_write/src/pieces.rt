@@ -2,20 +2,19 @@
 
 ghost use Rattle.std.specs.Prelude.{◌≡◌, ◌<◌, ◌++◌, ◌∷◌, [], codes, decimal};
 ghost use Rattle.std.specs.List.{flat_map};
-ghost use Rattle.surface_rows.specs.Puts.{Puts};
-ghost use Rattle.manifest_read.specs.Canon.{last_digit, six_digits as six_digits_of, without_zeros as trimmed_digits, fraction_text, duration_text, rate_text};
+ghost use Rattle.surf_outside.specs.Puts.{Puts};
+ghost use Rattle.manifest_write.specs.Canon.{last_digit, six_digits as six_digits_of, without_zeros as trimmed_digits, fraction_text, duration_text, rate_text};
 
 use surf_kinds::Rate;
-use surf_outside::{Failed, Sink};
+use surf_outside::{Failed, Sink, put};
 use surf_text::Digits;
-use surface_rows::put;
 
 /// Ticks in a unit of time.
 const TICKS: u64 = 1_000_000;
 
 /// Writes one piece after the other.
 pub(crate) fn put_pieces<O: Sink>(out: &mut O, pieces: &[&[u8]]) -> Result<(), Failed>
-    ensures { Puts (O.held out.old) (O.held out.new) (O.faults out.old) (O.faults out.new) (flat_map (λ p. p.now) pieces.now) result }
+    ensures { Puts (O.written out.old) (O.written out.new) (O.faults out.old) (O.faults out.new) (flat_map (λ p. p.now) pieces.now) result }
 {
     for piece in pieces {
         put(out, piece)?;
@@ -60,7 +59,7 @@ fn without_zeros(digits: &[u8]) -> &[u8]
 /// Writes what a duration has beside whole units of time, in millionths of a unit.
 fn put_fraction<O: Sink>(out: &mut O, rest: u32) -> Result<(), Failed>
     requires { rest < 1000000 }
-    ensures { Puts (O.held out.old) (O.held out.new) (O.faults out.old) (O.faults out.new) (fraction_text rest) result }
+    ensures { Puts (O.written out.old) (O.written out.new) (O.faults out.old) (O.faults out.new) (fraction_text rest) result }
 {
     if rest == 0 {
         return Ok(());
@@ -70,7 +69,7 @@ fn put_fraction<O: Sink>(out: &mut O, rest: u32) -> Result<(), Failed>
 
 /// Writes a duration, in units of time.
 pub(crate) fn put_duration<O: Sink>(out: &mut O, ticks: u64) -> Result<(), Failed>
-    ensures { Puts (O.held out.old) (O.held out.new) (O.faults out.old) (O.faults out.new) (duration_text ticks) result }
+    ensures { Puts (O.written out.old) (O.written out.new) (O.faults out.old) (O.faults out.new) (duration_text ticks) result }
 {
     put(out, Digits::of(ticks / TICKS).bytes())?;
     put_fraction(out, (ticks % TICKS) as u32)
@@ -78,7 +77,7 @@ pub(crate) fn put_duration<O: Sink>(out: &mut O, ticks: u64) -> Result<(), Faile
 
 /// Writes a rate in brackets, and a space.
 pub(crate) fn put_rate<O: Sink>(out: &mut O, rate: Rate) -> Result<(), Failed>
-    ensures { Puts (O.held out.old) (O.held out.new) (O.faults out.old) (O.faults out.new) (codes "(" ++ rate_text rate ++ codes ") ") result }
+    ensures { Puts (O.written out.old) (O.written out.new) (O.faults out.old) (O.faults out.new) (codes "(" ++ rate_text rate ++ codes ") ") result }
 {
     let p = Digits::of(u64::from(rate.p));
     if rate.q == 1 {

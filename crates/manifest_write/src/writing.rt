@@ -4,43 +4,28 @@ ghost use Rattle.std.specs.Prelude.{◌≡◌, ◌<◌, ◌++◌, ◌∷◌, [],
 ghost use Rattle.std.specs.Io.KnownBytes.{Appends};
 ghost use Rattle.surf_outside.specs.Causes.{HasCause};
 ghost use Rattle.surf_outside.specs.Known.{AppendsPrefix};
-ghost use Rattle.surface_rows.specs.Puts.{Puts};
+ghost use Rattle.surf_outside.specs.Puts.{Puts};
 ghost use Rattle.surface_rows.specs.Rows.{row_lines, rows_text, lines_text, name_of};
 ghost use Rattle.manifest_read.specs.Manifest.{IsValid};
 ghost use Rattle.manifest_read.specs.Sound.{IsKnownRule, IsSound};
-ghost use Rattle.manifest_read.specs.Canon.{bool_text, canonical_text, colour_lines, kind_text, known_lines, rule_line, setting_line};
+ghost use Rattle.manifest_write.specs.Canon.{canonical_text, colour_lines, read_setting_lines, rule_line, setting_line};
+ghost use Rattle.manifest_read.specs.Settings.{bool_text, kind_text};
 
 use crate::pieces::{put_duration, put_pieces, put_rate};
-use lattice::Kind;
-use manifest_read::{LineList, Manifest, Setting, Text};
+use manifest_read::{LineList, Manifest, Setting, Text, bool_name, kind_name};
 use species::Names;
-use surf_kinds::{Rule, SpeciesId};
-use surf_outside::{Failed, Sink};
+use surf_kinds::Rule;
+use surf_outside::{Failed, Sink, put};
 use surf_text::Digits;
-use surface_rows::{put, write_rows};
-
-fn kind_word(kind: Kind) -> &'static [u8]
-    ensures { result.now ≡ kind_text kind }
-{
-    match kind {
-        Kind::Square => b"square",
-        Kind::Hex => b"hex",
-    }
-}
-
-fn bool_word(value: bool) -> &'static [u8]
-    ensures { result.now ≡ bool_text value }
-{
-    if value { b"true" } else { b"false" }
-}
+use surface_rows::{name_bytes, write_rows};
 
 /// Writes the settings that the simulation reads.
-fn write_known<O: Sink>(out: &mut O, m: &Manifest) -> Result<(), Failed>
-    ensures { Puts (O.held out.old) (O.held out.new) (O.faults out.old) (O.faults out.new) (lines_text (known_lines m.now)) result }
+fn write_read_settings<O: Sink>(out: &mut O, m: &Manifest) -> Result<(), Failed>
+    ensures { Puts (O.written out.old) (O.written out.new) (O.faults out.old) (O.faults out.new) (lines_text (read_setting_lines m.now)) result }
 {
     let seed = Digits::of(m.seed);
-    let kind = kind_word(m.lattice.kind());
-    let wrap = bool_word(m.lattice.wrap());
+    let kind = kind_name(m.lattice.kind()).as_bytes();
+    let wrap = bool_name(m.lattice.wrap()).as_bytes();
     put_pieces(out, &[b"rng_seed = ", seed.bytes(), b"\nmax_duration = "])?;
     put_duration(out, m.until)?;
     put_pieces(out, &[b"\nlattice = ", kind, b"\nwrap = ", wrap, b"\n"])
@@ -48,7 +33,7 @@ fn write_known<O: Sink>(out: &mut O, m: &Manifest) -> Result<(), Failed>
 
 /// Writes another setting. Nothing stands behind the `=` of an empty value.
 fn write_setting<O: Sink>(out: &mut O, setting: &Setting) -> Result<(), Failed>
-    ensures { Puts (O.held out.old) (O.held out.new) (O.faults out.old) (O.faults out.new) (setting_line setting.now ++ 10 ∷ []) result }
+    ensures { Puts (O.written out.old) (O.written out.new) (O.faults out.old) (O.faults out.new) (setting_line setting.now ++ 10 ∷ []) result }
 {
     let name = setting.name.as_str().as_bytes();
     let value = setting.value.as_str().as_bytes();
@@ -60,7 +45,7 @@ fn write_setting<O: Sink>(out: &mut O, setting: &Setting) -> Result<(), Failed>
 
 /// Writes the other settings.
 fn write_settings<O: Sink>(out: &mut O, settings: &[Setting]) -> Result<(), Failed>
-    ensures { Puts (O.held out.old) (O.held out.new) (O.faults out.old) (O.faults out.new) (lines_text (map setting_line settings.now)) result }
+    ensures { Puts (O.written out.old) (O.written out.new) (O.faults out.old) (O.faults out.new) (lines_text (map setting_line settings.now)) result }
 {
     for setting in settings {
         write_setting(out, setting)?;
@@ -68,18 +53,10 @@ fn write_settings<O: Sink>(out: &mut O, settings: &[Setting]) -> Result<(), Fail
     Ok(())
 }
 
-/// The bytes of a name.
-fn name_bytes(names: &Names, id: SpeciesId) -> &[u8]
-    requires { id.0 < length names.now }
-    ensures { result.now ≡ name_of names.now id }
-{
-    names.name(id).as_bytes()
-}
-
 /// Writes a rule.
 fn write_rule<O: Sink>(out: &mut O, names: &Names, rule: &Rule) -> Result<(), Failed>
     requires { IsKnownRule (length names.now) rule.now }
-    ensures { Puts (O.held out.old) (O.held out.new) (O.faults out.old) (O.faults out.new) (rule_line names.now rule.now ++ 10 ∷ []) result }
+    ensures { Puts (O.written out.old) (O.written out.new) (O.faults out.old) (O.faults out.new) (rule_line names.now rule.now ++ 10 ∷ []) result }
 {
     match *rule {
         Rule::One { rate, a, c } => {
@@ -102,7 +79,7 @@ fn write_rule<O: Sink>(out: &mut O, names: &Names, rule: &Rule) -> Result<(), Fa
 /// Writes the section of the rules.
 fn write_rules<O: Sink>(out: &mut O, names: &Names, rules: &[Rule]) -> Result<(), Failed>
     requires { All (IsKnownRule (length names.now)) rules.now }
-    ensures { Puts (O.held out.old) (O.held out.new) (O.faults out.old) (O.faults out.new) (lines_text (codes "!START_TRANSITION_RULES" ∷ map (rule_line names.now) rules.now ++ codes "!END_TRANSITION_RULES" ∷ [])) result }
+    ensures { Puts (O.written out.old) (O.written out.new) (O.faults out.old) (O.faults out.new) (lines_text (codes "!START_TRANSITION_RULES" ∷ map (rule_line names.now) rules.now ++ codes "!END_TRANSITION_RULES" ∷ [])) result }
 {
     put(out, b"!START_TRANSITION_RULES\n")?;
     for rule in rules {
@@ -114,7 +91,7 @@ fn write_rules<O: Sink>(out: &mut O, names: &Names, rules: &[Rule]) -> Result<()
 /// Writes the rows of the surface.
 fn put_rows<O: Sink>(out: &mut O, m: &Manifest) -> Result<(), Failed>
     requires { IsSound m.now }
-    ensures { Puts (O.held out.old) (O.held out.new) (O.faults out.old) (O.faults out.new) (rows_text m.now.names m.now.lattice.rows m.now.lattice.cols m.now.cells) result }
+    ensures { Puts (O.written out.old) (O.written out.new) (O.faults out.old) (O.faults out.new) (rows_text m.now.names m.now.lattice.rows m.now.lattice.cols m.now.cells) result }
 {
     let rows = m.lattice.rows();
     let cols = m.lattice.cols();
@@ -124,7 +101,7 @@ fn put_rows<O: Sink>(out: &mut O, m: &Manifest) -> Result<(), Failed>
 /// Writes the section of the surface.
 fn write_surface<O: Sink>(out: &mut O, m: &Manifest) -> Result<(), Failed>
     requires { IsSound m.now }
-    ensures { Puts (O.held out.old) (O.held out.new) (O.faults out.old) (O.faults out.new) (lines_text (codes "!START_INIT_STATE" ∷ row_lines m.now.names m.now.lattice.rows m.now.lattice.cols m.now.cells ++ codes "!END_INIT_STATE" ∷ [])) result }
+    ensures { Puts (O.written out.old) (O.written out.new) (O.faults out.old) (O.faults out.new) (lines_text (codes "!START_INIT_STATE" ∷ row_lines m.now.names m.now.lattice.rows m.now.lattice.cols m.now.cells ++ codes "!END_INIT_STATE" ∷ [])) result }
 {
     put(out, b"!START_INIT_STATE\n")?;
     put_rows(out, m)?;
@@ -133,7 +110,7 @@ fn write_surface<O: Sink>(out: &mut O, m: &Manifest) -> Result<(), Failed>
 
 /// Writes lines.
 fn write_lines<O: Sink>(out: &mut O, lines: &[Text]) -> Result<(), Failed>
-    ensures { Puts (O.held out.old) (O.held out.new) (O.faults out.old) (O.faults out.new) (lines_text lines.now) result }
+    ensures { Puts (O.written out.old) (O.written out.new) (O.faults out.old) (O.faults out.new) (lines_text lines.now) result }
 {
     for line in lines {
         put_pieces(out, &[line.as_str().as_bytes(), b"\n"])?;
@@ -143,7 +120,7 @@ fn write_lines<O: Sink>(out: &mut O, lines: &[Text]) -> Result<(), Failed>
 
 /// Writes the section of the colours, where it was there.
 fn write_colours<O: Sink>(out: &mut O, colours: &Option<LineList>) -> Result<(), Failed>
-    ensures { Puts (O.held out.old) (O.held out.new) (O.faults out.old) (O.faults out.new) (lines_text (colour_lines colours.now)) result }
+    ensures { Puts (O.written out.old) (O.written out.new) (O.faults out.old) (O.faults out.new) (lines_text (colour_lines colours.now)) result }
 {
     let Some(lines) = colours else {
         return Ok(());
@@ -156,9 +133,9 @@ fn write_colours<O: Sink>(out: &mut O, colours: &Option<LineList>) -> Result<(),
 /// Writes the canonical lines.
 fn write_canon<O: Sink>(m: &Manifest, out: &mut O) -> Result<(), Failed>
     requires { IsSound m.now }
-    ensures { Puts (O.held out.old) (O.held out.new) (O.faults out.old) (O.faults out.new) (canonical_text m.now) result }
+    ensures { Puts (O.written out.old) (O.written out.new) (O.faults out.old) (O.faults out.new) (canonical_text m.now) result }
 {
-    write_known(out, m)?;
+    write_read_settings(out, m)?;
     write_settings(out, m.others.as_slice())?;
     write_rules(out, &m.names, m.rules.as_slice())?;
     write_surface(out, m)?;
@@ -169,8 +146,8 @@ fn write_canon<O: Sink>(m: &Manifest, out: &mut O) -> Result<(), Failed>
 /// Takes no memory.
 pub fn write_manifest<O: Sink>(m: &Manifest, out: &mut O) -> Result<(), Failed>
     requires valid { IsValid m.now }
-    ensures ok { OnOk result (Appends (O.held out.old) (O.held out.new) (canonical_text m.now)) }
-    ensures err { OnErr result (AppendsPrefix (O.held out.old) (O.held out.new) (canonical_text m.now)) }
+    ensures ok { OnOk result (Appends (O.written out.old) (O.written out.new) (canonical_text m.now)) }
+    ensures err { OnErr result (AppendsPrefix (O.written out.old) (O.written out.new) (canonical_text m.now)) }
     ensures cause { HasCause (O.faults out.old) (O.faults out.new) result }
 {
     write_canon(m, out)

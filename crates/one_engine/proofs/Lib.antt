@@ -1,5 +1,4 @@
-pub mod Sets
-pub mod Leasts
-pub mod After
-pub mod Offered
-pub mod Fires
+mod Settled
+mod Fires
+mod Firings
+pub mod LawLemmas

@@ -1,35 +1,34 @@
 -- What holds of an engine between its calls.
-use Rattle.std.specs.Prelude.{◌≡◌, ℕ, ◌-◌, ◌*◌, ◌^◌, ◌<◌, ◌≤◌, List, length, slice_index_or, slice_set, None, All}
+use Rattle.std.specs.Prelude.{◌≡◌, ℕ, ◌*◌, ◌^◌, ◌≤◌, Bool, true, List, All}
 use Rattle.surf_kinds.specs.declared.site.SiteState.{SiteState}
-use Rattle.lattice.specs.Shape.{Shape}
-use Rattle.event_queue.specs.Kept.{Kept}
+use Rattle.surf_kinds.specs.declared.event.Event.{Event}
+use Rattle.lattice.specs.Places.{IsPlace}
+use Rattle.lattice.specs.Surface.{IsChannelOf, HasRoom}
+use Rattle.event_queue.specs.QueueView.{QueueView}
 use Rattle.plan.specs.Network.{Network}
-use Rattle.plan.specs.Next.{next}
-use Rattle.surface_state.specs.Standing.{Standing}
+use Rattle.surface_state.specs.SurfaceView.{SurfaceView}
+use Rattle.next_events.specs.Entries.{all_places, CoversRange, AreUpToDate}
 use Rattle.one_engine.specs.State.{LeavesWithin}
 
--- the queue has an entry for each place of the lattice
-pub record IsOver (l : Shape) (q : Kept) : Type 0 where
-  pub first : q.first ≡ 0
-  pub count : length q.events ≡ 8 * (l.rows * l.cols)
-
--- what the queue keeps at the place is the place's next event on this surface
-abbrev pub IsRight : Network → List SiteState → Kept → ℕ → Type 0
-IsRight n sites q place = slice_index_or q.events place None ≡ next n.lattice n.seed n.rules sites place
-
--- the queue with the next event of the place on this surface
-abbrev pub refreshed : Network → List SiteState → Kept → ℕ → Kept
-refreshed n sites q place = record { first = q.first; events = slice_set q.events (place - q.first) (next n.lattice n.seed n.rules sites place) }
+-- every place is one of the queue's
+abbrev pub each_place : ℕ → Bool
+each_place place = true
 
 -- the site was rewritten at most seven times a tick, and the last time by tick 10 ^ 15
 pub record IsSettled (s : SiteState) : Type 0 where
   pub version : s.version ≤ 7 * s.last
   pub last : s.last ≤ 10 ^ 15
 
--- the queue keeps the next event of every place
-pub record IsRunning (n : Network) (s : Standing) (q : Kept) : Type 0 where
+-- the queue has the next event of every place
+pub record IsRunning (n : Network) (s : SurfaceView) (q : QueueView) : Type 0 where
   pub lattice : s.lattice ≡ n.lattice
-  pub species : All (LeavesWithin s.kinds) n.rules
+  pub species : All (LeavesWithin s.species_count) n.rules
   pub settled : All IsSettled s.sites
-  pub over : IsOver n.lattice q
-  pub right : (place : ℕ) → place < 8 * (n.lattice.rows * n.lattice.cols) → IsRight n s.sites q place
+  pub covers : CoversRange (all_places n.lattice) q
+  pub up_to_date : AreUpToDate n s.sites each_place q
+
+-- the event's place and channel are there, and the sites have room for it
+pub record CanFire (n : Network) (sites : List SiteState) (e : Event) : Type 0 where
+  pub place : IsPlace n.lattice e.place.0
+  pub channel : IsChannelOf n.rules e.channel
+  pub has_room : HasRoom n.lattice sites e.place.0

@@ -1,15 +1,16 @@
 //! The engine: a surface with the queue of its next events.
 
-ghost use Rattle.std.specs.Prelude.{◌≡◌, ◌^◌, ◌≤◌, ◌*◌, All, IfOk, MatchOption};
+ghost use Rattle.std.specs.Prelude.{◌≡◌, ◌^◌, ◌≤◌, ◌*◌, ◌∷◌, [], All, IfOk, MatchOption};
 ghost use Rattle.plan.specs.History.{due};
-ghost use Rattle.one_engine.specs.State.{fired, LeavesWithin};
+ghost use Rattle.one_engine.specs.State.{fired, history_from, LeavesWithin};
 
-use crate::entries::{all_entries, refresh};
 use event_queue::Queue;
+use lattice::PlaceRange;
+use next_events::{EveryPlace, queue_of, refresh};
 use plan::Plan;
 use std::alloc::Global;
 use std::marker::Model;
-use surf_kinds::{Event, NoMemory};
+use surf_kinds::{Event, NoMemory, Place, SiteId, Step};
 use surface_state::Surface;
 
 /// A surface that runs by the rules of a plan.
@@ -36,15 +37,17 @@ impl Engine {
     /// other calls take no memory.
     pub fn new(alloc: Global, plan: Plan, surface: Surface) -> Result<Engine, NoMemory>
         requires lattice { surface.lattice ≡ plan.lattice }
-        requires species { All (LeavesWithin surface.kinds) plan.rules }
+        requires species { All (LeavesWithin surface.species_count) plan.rules }
         requires versions { All (λ s. s.version ≤ 7 * s.last) surface.sites }
         requires lasts { All (λ s. s.last ≤ 10 ^ 15) surface.sites }
         ensures { IfOk result (λ e. e ≡ record { network = plan; surface = surface }) }
     {
-        let queue = match all_entries(alloc, &plan, &surface) {
-            Ok(queue) => queue,
-            Err(NoMemory) => return Err(NoMemory),
+        let end = Place::at(SiteId(plan.lattice().site_count()), Step::Alone);
+        let all_places = PlaceRange {
+            first: 0,
+            end: end.0,
         };
+        let queue = queue_of(alloc, &plan, &surface, all_places)?;
         Ok(Engine {
             plan,
             surface,
@@ -56,14 +59,23 @@ impl Engine {
     /// no event or it is later; then nothing changes. The cost goes with the logarithm of the number of places.
     pub fn fire(&mut self, until: u64) -> Option<Event>
         requires { until ≤ 10 ^ 15 }
-        ensures due { result ≡ due self.old.network.lattice self.old.network.seed self.old.network.rules until self.old.surface.sites }
+        ensures due { result ≡ due self.old.network until self.old.surface.sites }
         ensures state { MatchOption result (self.new ≡ self.old) (λ e. self.new ≡ fired self.old e) }
+
+        // The answer is the first event of the history, which the next answers go on with.
+        ensures history { MatchOption result (history_from until self.old ≡ []) (λ e. history_from until self.old ≡ e ∷ history_from until self.new) }
     {
         match self.queue.least() {
             Some(event) if event.time <= until => {
                 let products = self.plan.products(event.channel);
                 self.surface.apply(event, products);
-                refresh(&self.plan, &self.surface, &mut self.queue, event.place);
+                refresh(
+                    &self.plan,
+                    &self.surface,
+                    &mut self.queue,
+                    EveryPlace,
+                    event.place,
+                );
                 Some(event)
             }
             _ => None,

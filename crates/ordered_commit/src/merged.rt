@@ -15,12 +15,8 @@ pub fn merge(alloc: Global, lists: &[Vec<Event>]) -> Result<Vec<Event>, NoMemory
     ensures all { IfOk result (λ merged. IsPermutation (all_events (map vec_items lists.now)) merged.items) }
     ensures order { IfOk result (λ merged. RiseStrictly merged.items) }
 {
-    let Ok(mut events) = lists.concat(alloc) else {
-        return Err(NoMemory);
-    };
+    let mut events = lists.concat(alloc)?;
     // The lists are runs that are in order already: the sort finds them, and merges them.
-    match events.sort_by_key(|event| event.key()) {
-        Ok(()) => Ok(events),
-        Err(_) => Err(NoMemory),
-    }
+    events.sort_by_key(|event| event.key())?;
+    Ok(events)
 }

@@ -1,8 +1,8 @@
-pub mod Offers
-pub mod Writes
-pub mod Steps
-pub mod Keys
-pub mod KeyByKey
+mod Standing
+mod Offers
+mod Fitting
+mod Changes
+mod Leasts
+mod Histories
 mod Listed
-mod Indexed
-pub mod Runs
+pub mod LawLemmas

@@ -1,55 +1,11 @@
--- The channels of a plan by their reactants: what stands at the sites of a place.
-use Rattle.std.specs.Prelude.{ℕ, zero, suc, ◌+◌, ◌*◌, ◌≡◌, ◌<◌, ◌≤◌, All, List, [], ◌∷◌, ◌++◌, length, Option, Some, None, Bool, ◌==◌, ◌&&◌, if◌then◌else◌, slice_get, slice_index, true, false}
-use Rattle.surf_kinds.specs.declared.rule.Rule.{Rule}
-use Rattle.surf_kinds.specs.declared.site.SiteState.{SiteState}
+-- What an index of channels finds for reactants: what stands at the sites of a place.
+use Rattle.std.specs.Prelude.{ℕ, ◌≡◌, ◌<◌, ◌≤◌, All, List, [], ◌∷◌, length, Option, Some, None, Bool, ◌==◌, ◌&&◌, if◌then◌else◌, slice_get, slice_index, true, false}
 use Rattle.surf_kinds.specs.declared.site.SpeciesId.{SpeciesId}
-use Rattle.surf_kinds.specs.declared.event.Event.{Event}
-use Rattle.surf_kinds.specs.Keys.{earlier}
-use Rattle.lattice.specs.Channels.{stands, rate_of}
-use Rattle.draws.specs.Draw.{draw_of}
-use Rattle.rates.specs.Waits.{wait_of}
-use Rattle.plan.specs.Next.{species_of}
 use Rattle.plan.specs.declared.index.Reactants.{Reactants}
 use Rattle.plan.specs.declared.index.Channel.{Channel}
 use Rattle.plan.specs.declared.index.Row.{Row}
 use Rattle.plan.specs.declared.index.Index.{Index}
 use Rattle.std.specs.Global.{Vec}
-
--- the channel of a rule and a way, where the reactants stand so
-abbrev pub channel_if : Bool → ℕ → Rule → List Channel
-channel_if b number rule = if b then record { number = number; rate = rate_of rule } ∷ [] else []
-
-abbrev pub channel_at : Reactants → ℕ → ℕ → Option Rule → List Channel
-channel_at r number way None = []
-channel_at r number way (Some rule) = channel_if (stands rule way r.first r.second) number rule
-
--- the channels of the first n rules with these reactants, rising
-abbrev pub channels_upto : List Rule → Reactants → ℕ → List Channel
-channels_upto rules r zero = []
-channels_upto rules r (suc n) = (channels_upto rules r n ++ channel_at r (2 * n) 0 (slice_get rules n)) ++ channel_at r (2 * n + 1) 1 (slice_get rules n)
-
--- all channels with these reactants
-abbrev pub channels_of : List Rule → Reactants → List Channel
-channels_of rules r = channels_upto rules r (length rules)
-
--- what stands at the sites of a place with these states
-abbrev pub reactants_at : SiteState → Option SiteState → Reactants
-reactants_at s t = record { first = s.species; second = species_of t }
-
--- a channel's number is below that of the draws, and its rate is above 0
-pub record IsChannel (c : Channel) : Type 0 where
-  pub number : c.number < 8192
-  pub rate : 0 < c.rate.p
-
--- the event of a channel of a place, at an occurrence, whose wait begins at a tick
-abbrev pub armed_by : ℕ → ℕ → ℕ → ℕ → Channel → Event
-armed_by seed place occurrence from c =
-    record { time = from + wait_of c.rate (draw_of seed place occurrence c.number); place = record { 0 = place }; channel = c.number }
-
--- the earliest of an event and those of the channels
-abbrev pub earliest_after : ℕ → ℕ → ℕ → ℕ → Option Event → List Channel → Option Event
-earliest_after seed place occurrence from best [] = best
-earliest_after seed place occurrence from best (c ∷ cs) = earliest_after seed place occurrence from (earlier best (Some (armed_by seed place occurrence from c))) cs
 
 abbrev pub same_species : Option SpeciesId → Option SpeciesId → Bool
 same_species None None = true

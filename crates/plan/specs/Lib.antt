@@ -1,7 +1,10 @@
-pub mod Next
-pub mod History
 pub mod Network
+pub mod Channels
+pub mod Next
+pub mod Sharing
+pub mod History
 pub mod Index
-pub mod Held
-pub mod Open
+pub mod ChannelIndex
+pub mod Bounds
 pub mod Products
+pub mod Offered

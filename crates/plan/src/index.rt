@@ -72,10 +72,10 @@ impl Row {
         ensures added { OnOk result ((s : Option SpeciesId) → found_in_row self.new s ≡ (if same_species s second then found_in_row self.old s ++ channel ∷ [] else found_in_row self.old s)) }
     {
         match second {
-            None => match self.alone.push(channel) {
-                Ok(()) => Ok(()),
-                Err(_) => Err(NoMemory),
-            },
+            None => {
+                self.alone.push(channel)?;
+                Ok(())
+            }
             Some(second) => self.add_pair(alloc, second.0, channel),
         }
     }
@@ -88,10 +88,8 @@ impl Row {
         match self.seconds.binary_search(&second) {
             Ok(k) => {
                 let list = &mut self.pairs[k];
-                match list.push(channel) {
-                    Ok(()) => Ok(()),
-                    Err(_) => Err(NoMemory),
-                }
+                list.push(channel)?;
+                Ok(())
             }
             Err(k) => self.add_first(alloc, k, second, channel),
         }
@@ -111,16 +109,10 @@ impl Row {
         ensures added { OnOk result ((s : Option SpeciesId) → found_in_row self.new s ≡ (if same_species s (Some (record { 0 = second })) then found_in_row self.old s ++ channel ∷ [] else found_in_row self.old s)) }
     {
         let mut list = Vec::new(alloc);
-        let Ok(()) = list.push(channel) else {
-            return Err(NoMemory);
-        };
-        let Ok(()) = self.pairs.insert(k, list) else {
-            return Err(NoMemory);
-        };
-        match self.seconds.insert(k, second) {
-            Ok(()) => Ok(()),
-            Err(_) => Err(NoMemory),
-        }
+        list.push(channel)?;
+        self.pairs.insert(k, list)?;
+        self.seconds.insert(k, second)?;
+        Ok(())
     }
 }
 
@@ -132,7 +124,8 @@ pub(crate) struct Index {
 }
 
 impl Index {
-    ghost use Rattle.plan.specs.Index.{found_in, same, channel_at, AreRows};
+    ghost use Rattle.plan.specs.Channels.{channel_at};
+    ghost use Rattle.plan.specs.Index.{found_in, same, AreRows};
     ghost use Rattle.plan.specs.declared.index.Reactants.{Reactants};
     ghost use Rattle.std.specs.Prelude.{◌≡◌, ◌++◌, ◌∷◌, [], ◌+◌, ◌<◌, ◌&&◌, nat_lt, OnOk, Some, length, if◌then◌else◌};
 
@@ -165,9 +158,7 @@ impl Index {
         ensures found { OnOk result ((r : Reactants) → found_in self.new r ≡ found_in self.old r) }
     {
         while self.rows.len() <= usize::from(first.0) {
-            let Ok(()) = self.rows.push(Row::new(alloc)) else {
-                return Err(NoMemory);
-            };
+            self.rows.push(Row::new(alloc))?;
         }
         Ok(())
     }
@@ -178,10 +169,7 @@ impl Index {
         ensures rows { OnOk result (AreRows self.new) }
         ensures added { OnOk result ((r : Reactants) → found_in self.new r ≡ (if same r reactants then found_in self.old r ++ channel ∷ [] else found_in self.old r)) }
     {
-        match self.grow(alloc, reactants.first) {
-            Ok(()) => {}
-            Err(NoMemory) => return Err(NoMemory),
-        }
+        self.grow(alloc, reactants.first)?;
         let row = &mut self.rows[usize::from(reactants.first.0)];
         row.add(alloc, reactants.second, channel)
     }
@@ -208,17 +196,14 @@ impl Index {
                 Channel { number, rate },
             ),
             Rule::Two { rate, a, b, c, d } => {
-                match self.add_positive(
+                self.add_positive(
                     alloc,
                     Reactants {
                         first: a,
                         second: Some(b),
                     },
                     Channel { number, rate },
-                ) {
-                    Ok(()) => {}
-                    Err(NoMemory) => return Err(NoMemory),
-                }
+                )?;
                 if a == b && c == d {
                     return Ok(());
                 }

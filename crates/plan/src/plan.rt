@@ -1,20 +1,24 @@
 //! A plan: rules on a lattice, with the seed of their draws.
 
-ghost use Rattle.std.specs.Prelude.{◌≡◌, ◌+◌, ◌*◌, ◌/◌, ◌^◌, ◌<◌, ◌≤◌, length, All, IfOk, IfSome, Some, None};
-ghost use Rattle.plan.specs.Index.{reactants_at, IsChannel, earliest_after, armed_by};
-ghost use Rattle.plan.specs.Next.{latest, next_at, occurrence};
-ghost use Rattle.plan.specs.Open.{IsOpen};
-ghost use Rattle.plan.specs.Held.{IsIndexed};
-ghost use Rattle.plan.specs.Products.{fits_place, has_two, has_way, products_of};
+ghost use Rattle.std.specs.Prelude.{◌≡◌, ◌+◌, ◌^◌, ◌<◌, ◌≤◌, ◌↔◌, [], length, All, IfOk, IfSome, Some, None};
+ghost use Rattle.surf_kinds.specs.Channels.{rule_of_channel as rule_number};
+ghost use Rattle.plan.specs.Bounds.{IsWithinBounds};
+ghost use Rattle.plan.specs.ChannelIndex.{IsIndexed};
+ghost use Rattle.plan.specs.Channels.{reactants_of as reactants_at, channels_of, IsChannel};
+ghost use Rattle.plan.specs.Next.{latest, next_at, occurrence, earliest as earliest_from, armed as armed_by};
+ghost use Rattle.plan.specs.Products.{fits_place, has_two, products_of};
 
 use crate::index::{Channel, Index, Reactants};
 use crate::order::earlier;
 use draws::Drawer;
 use lattice::Lattice;
+use lattice::plain::{are_ways_same, products};
 use rates::wait;
 use std::alloc::Global;
 use std::marker::Model;
-use surf_kinds::{Event, NoMemory, Place, Rule, SiteState, SpeciesId};
+use surf_kinds::{
+    Event, NoMemory, Place, Rule, SiteState, SpeciesId, rule_of_channel, way_of_channel,
+};
 
 /// The rules of a program on a lattice, and the seed of its draws.
 #[derive(Drop)]
@@ -27,7 +31,7 @@ pub struct Plan {
 
 impl Model for Plan {
     ghost use Rattle.plan.specs.Network.{Network};
-    ghost use Rattle.plan.specs.Held.{IsIndexed};
+    ghost use Rattle.plan.specs.ChannelIndex.{IsIndexed};
 
     ghost Value = { Network };
 
@@ -43,13 +47,8 @@ impl Plan {
         requires { length rules.now ≤ 4096 }
         ensures { IfOk result (λ p. p ≡ record { lattice = lattice; rules = rules.now; seed = seed }) }
     {
-        let index = match index_of(alloc, rules) {
-            Ok(index) => index,
-            Err(NoMemory) => return Err(NoMemory),
-        };
-        let Ok(rules) = rules.to_vec(alloc) else {
-            return Err(NoMemory);
-        };
+        let index = index_of(alloc, rules)?;
+        let rules = rules.to_vec(alloc)?;
         Ok(Plan {
             lattice,
             rules,
@@ -77,9 +76,10 @@ impl Plan {
     /// versions of its sites, and the channel. The cost goes with the channels that stand there.
     #[inline]
     pub fn next_of(&self, place: Place, a: SiteState, b: Option<SiteState>) -> Option<Event>
-        requires first { IsOpen a }
-        requires second { IfSome b IsOpen }
-        ensures { result ≡ next_at self.now.seed self.now.rules place.0 a b }
+        requires first { IsWithinBounds a }
+        requires second { IfSome b IsWithinBounds }
+        ensures next { result ≡ next_at self.now place.0 a b }
+        ensures none { (result ≡ None) ↔ (channels_of self.now.rules (reactants_at a b) ≡ []) }
     {
         let channels = self.index.find(reactants_of(a, b));
         if channels.is_empty() {
@@ -102,7 +102,7 @@ impl Plan {
         requires channels { All IsChannel channels.now }
         requires occurrence { occurrence < 2 ^ 54 }
         requires from { from ≤ 10 ^ 15 }
-        ensures { result ≡ earliest_after self.now.seed place.0 occurrence from None channels.now }
+        ensures { result ≡ earliest_from self.now.seed place.0 occurrence from None channels.now }
     {
         let mut best = None;
         for channel in channels {
@@ -130,38 +130,27 @@ impl Plan {
     /// Whether the number is a place of the lattice, and the channel one of a rule with that place's number of sites. A
     /// rule of one site has way 0 alone, and so has one of two sites whose two ways are the same.
     pub fn fits(&self, place: Place, channel: u16) -> bool
-        ensures { result ≡ fits_place self.now.lattice self.now.rules place.0 channel }
+        ensures { result ≡ fits_place self.now place.0 channel }
     {
         let Some(sites) = self.lattice.sites_of(place) else {
             return false;
         };
-        match self.rules.get(usize::from(channel / 2)) {
+        match self.rules.get(usize::from(rule_of_channel(channel))) {
             None => false,
-            Some(rule) => has_second(rule) == sites.second.is_some() && has_way(channel % 2, rule),
+            Some(rule) => {
+                has_second(rule) == sites.second.is_some()
+                    && (way_of_channel(channel) == 0 || !are_ways_same(rule))
+            }
         }
     }
 
     /// What a channel of a rule leaves at the first site and, for a rule of two sites, at the second.
     pub fn products(&self, channel: u16) -> (SpeciesId, Option<SpeciesId>)
-        requires { channel / 2 < length self.now.rules }
+        requires { rule_number channel < length self.now.rules }
         ensures { Some result ≡ products_of self.now.rules channel }
     {
-        match self.rules[usize::from(channel / 2)] {
-            Rule::One { rate: _, a: _, c } => (c, None),
-            Rule::Two {
-                rate: _,
-                a: _,
-                b: _,
-                c,
-                d,
-            } => {
-                if channel % 2 == 0 {
-                    (c, Some(d))
-                } else {
-                    (d, Some(c))
-                }
-            }
-        }
+        let rule = &self.rules[usize::from(rule_of_channel(channel))];
+        products(rule, way_of_channel(channel))
     }
 }
 
@@ -182,8 +171,8 @@ fn reactants_of(a: SiteState, b: Option<SiteState>) -> Reactants
 /// The occurrence of a place whose sites have these states, and the tick at which its waits begin.
 #[inline]
 fn beginning_of(a: SiteState, b: Option<SiteState>) -> (u64, u64)
-    requires first { IsOpen a }
-    requires second { IfSome b IsOpen }
+    requires first { IsWithinBounds a }
+    requires second { IfSome b IsWithinBounds }
     ensures occurrence { result.0 ≡ occurrence a b }
     ensures from { result.1 ≡ latest a b }
     ensures few { result.0 < 2 ^ 54 }
@@ -201,10 +190,7 @@ fn index_of(alloc: Global, rules: &[Rule]) -> Result<Index, NoMemory>
 {
     let mut index = Index::new(alloc);
     for (i, rule) in rules.iter().enumerate() {
-        match index.add_rule(alloc, 2 * i as u16, *rule) {
-            Ok(()) => {}
-            Err(NoMemory) => return Err(NoMemory),
-        }
+        index.add_rule(alloc, 2 * i as u16, *rule)?;
     }
     Ok(index)
 }
@@ -216,21 +202,5 @@ fn has_second(rule: &Rule) -> bool
     match rule {
         Rule::One { .. } => false,
         Rule::Two { .. } => true,
-    }
-}
-
-/// Whether the rule has this way.
-fn has_way(way: u16, rule: &Rule) -> bool
-    ensures { result ≡ has_way way rule.now }
-{
-    match rule {
-        Rule::One { .. } => way == 0,
-        Rule::Two {
-            rate: _,
-            a,
-            b,
-            c,
-            d,
-        } => way == 0 || !(a.0 == b.0 && c.0 == d.0),
     }
 }

@@ -22,7 +22,7 @@ fn fresh(species: SpeciesId) -> SiteState
 }
 
 // The rate at which every wait is one tick.
-#[tactic(auto, using(surf_kinds::proofs::Wholes::whole_reduced))]
+#[tactic(auto, using(surf_kinds::proofs::Fractions::whole_reduced))]
 fn instant() -> Rate {
     Rate {
         p: 1_000_000_000,
@@ -30,12 +30,19 @@ fn instant() -> Rate {
     }
 }
 
-fn event(time: u64, place: u64, channel: u16) -> Event {
+/// An event at tick 1.
+fn first_event(place: Place, channel: u16) -> Event {
     Event {
-        time,
-        place: Place(place),
+        time: 1,
+        place,
         channel,
     }
+}
+
+fn needs_both<T: Send + Sync>(value: T) -> T
+    ensures { result ≡ value }
+{
+    value
 }
 
 #[test]
@@ -47,11 +54,17 @@ fn a_pair_is_offered_in_its_way(rt: HostRuntime) -> Result<(), Fail> {
         c: A,
         d: C,
     }];
-    let lattice = Lattice::new(Kind::Square, 1, 3, false)?;
-    let plan = Plan::new(rt.alloc(), &rules, lattice, 0)?;
+    let lattice = Lattice::new(Kind::Hex, 1, 3, false)?;
+    let plan = needs_both(Plan::new(rt.alloc(), &rules, lattice, 0)?);
     let (a, b) = (fresh(A), fresh(B));
-    assert_eq!(rt; plan.next_of(Place(1), b, Some(a)), Some(event(1, 1, 1)));
-    assert_eq!(rt; plan.next_of(Place(9), a, Some(b)), Some(event(1, 9, 0)));
+    assert_eq!(rt;
+        plan.next_of(Place(1), b, Some(a)),
+        Some(first_event(Place(1), 1))
+    );
+    assert_eq!(rt;
+        plan.next_of(Place(9), a, Some(b)),
+        Some(first_event(Place(9), 0))
+    );
     assert_eq!(rt; plan.next_of(Place(1), b, Some(b)), None);
     assert_eq!(rt; plan.next_of(Place(0), a, None), None);
     assert_eq!(rt; plan.products(1), (C, Some(A)));

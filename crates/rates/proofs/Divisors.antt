@@ -1,7 +1,8 @@
 -- The greatest common divisor, and what dividing by it gives.
-use Rattle.std.proofs.Common.{◌≡◌, ℕ, zero, suc, ◌*◌, ◌/◌, ◌%◌, ◌<◌, ◌≤◌, Bool, true, false, cond, ◌&&◌, ◌==◌, refl, ap, ◌∙◌, lit≤, arith, inl, inr, ◌⊎◌, subst}
+use Rattle.std.proofs.Common.{◌≡◌, ℕ, zero, suc, ◌*◌, ◌/◌, ◌%◌, ◌<◌, ◌≤◌, Bool, true, false, cond, ◌&&◌, ◌==◌, ap, ◌∙◌, lit≤, arith, inl, inr, subst}
 use Prim.Native.Nat.{◌∣◌}
 use Rattle.std.specs.Int.{IsGcd}
+use Rattle.std.proofs.lemmas.Bool.{cases_Bool}
 use Rattle.std.proofs.lemmas.Bool.Decides.{nat_tests}
 use Rattle.std.proofs.lemmas.Nat.Gcd.{le_from_IsGcd, dvd_of_mod-eq-zero, mod-eq-zero_of_dvd, le_of_dvd}
 use Rattle.std.proofs.Math.Nat.{eq-zero_of_zero-dvd, pow-le-pow_right, mul-le-mul_left, div-mul_cancel, mul-dvd-mul_right, dvd_of_mul-dvd-mul_right, one-dvd}
@@ -17,15 +18,11 @@ test_true k a b h = (grind (arith, nat_tests), grind (arith, nat_tests))
 test_of : (k a b : ℕ) → a % k ≡ 0 → b % k ≡ 0 → common_test k a b ≡ true
 test_of k a b h g = grind (arith, nat_tests)
 
-bool_cases : (b : Bool) → (b ≡ true) ⊎ (b ≡ false)
-bool_cases true = inl refl
-bool_cases false = inr refl
-
 gcd_below-is : (k a b g : ℕ) → IsGcd a b g → 0 < g → g ≤ k → gcd_below k a b ≡ g
 unfolding gcd_below
 gcd_below-is zero a b g h p l = absurd (omega arith)
 gcd_below-is (suc k) a b g h p l =
-    elim (bool_cases (common_test (suc k) a b)) [
+    elim (cases_Bool (common_test (suc k) a b)) [
       | inl passed ↦
           (let parts = test_true (suc k) a b passed in
           let le : suc k ≤ g = le_from_IsGcd a b g (suc k) h p (dvd_of_mod-eq-zero (suc k) parts.0) (dvd_of_mod-eq-zero (suc k) parts.1) in

@@ -1,5 +1,5 @@
-pub mod Laws
-pub mod Fractions
+mod Waiting
+mod Divisors
+mod Lowest
+pub mod LawLemmas
 mod Vectors
-pub mod Divisors
-pub mod Lowest

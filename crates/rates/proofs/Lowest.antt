@@ -3,6 +3,7 @@ use Rattle.std.proofs.Common.{◌≡◌, ℕ, ◌*◌, ◌/◌, ◌<◌, ◌≤�
 use Rattle.std.specs.Int.{IsGcd}
 use Rattle.std.specs.Option.{option_and_then}
 use Rattle.std.proofs.lemmas.Bool.Decides.{nat_tests}
+use Rattle.std.proofs.lemmas.Option.{same_Some}
 use Rattle.std.proofs.lemmas.Nat.Gcd.{same_from_IsGcd}
 use Rattle.std.proofs.Math.Nat.{div-mul_cancel, mul-div_cancel}
 use Rattle.surf_kinds.specs.Rates.{Fraction}
@@ -48,9 +49,6 @@ lowest-divided f r g h positive l =
     let same : l.divisor ≡ g = same_from_IsGcd f.p f.q l.divisor g l.greatest h in
     (quotient r.p g f.p positive (ap (λ k. r.p * k) (sym same) ∙ l.numerator), quotient r.q g f.q positive (ap (λ k. r.q * k) (sym same) ∙ l.denominator))
 
-some_same : (a b : Fraction) → Some a ≡ Some b → a ≡ b
-some_same a b h = cc
-
 rate_is : (text : List ℕ) (f : Fraction) (g : ℕ) → fraction_of (trimmed text) ≡ Some f → g ≡ gcd_of f.p f.q → rate_of text ≡ bounded (f.p / g) (f.q / g)
 rate_is text f g e h = ap (option_and_then reduced) e ∙ ap (λ k. bounded (f.p / k) (f.q / k)) (sym h)
 
@@ -74,20 +72,10 @@ read_as text f g e h same positive o v r = (λ s. sound (sym by_bounds ∙ s), �
         }
 
     spelled : (f' : Fraction) → fraction_of (trimmed text) ≡ Some f' → f' ≡ f
-    spelled f' k = some_same f' f (sym k ∙ sym e)
+    spelled f' k = same_Some f' f (sym k ∙ sym e)
 
     complete : IsRate text r → o ≡ Some r
     complete s =
         let l : IsLowest f r = subst (λ x. IsLowest x r) (spelled s.fraction s.spelled) s.lowest in
         let d = lowest-divided f r g h positive l in
         by_bounds ∙ ap (λ p. bounded p (f.q / g)) (sym d.0) ∙ ap (λ q. bounded r.p q) (sym d.1) ∙ bounded-complete r.p r.q s.p_at_most s.q_at_most
-
--- where it spells none
-pub read_none : (text : List ℕ) → None ≡ fraction_of (trimmed text) → (o : Option Fraction) → o ≡ rate_of text → (r : Fraction) → (o ≡ Some r) ↔ IsRate text r
-read_none text e o v r = (
-  λ s. absurd (apart r (sym s ∙ v ∙ ap (option_and_then reduced) (sym e))),
-  λ s. absurd (apart s.fraction (sym s.spelled ∙ sym e)),
-)
-  where
-    apart : (f : Fraction) → Some f ≡ None → ⊥
-    apart f h = cc

@@ -10,6 +10,7 @@
 #![tactic(auto)]
 
 mod durations;
+pub mod laws;
 mod reading;
 mod waits;
 

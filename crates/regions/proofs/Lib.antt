@@ -1,6 +1,10 @@
-pub mod Rows
-pub mod Owners
-pub mod Steps
-pub mod Sights
-pub mod Tellings
-pub mod Pairs
+mod Rows
+mod Owners
+mod Sights
+mod Tellings
+mod Pairs
+mod Near
+mod Listing
+mod Ranges
+mod Meeting
+pub mod LawLemmas

@@ -4,16 +4,13 @@ use Rattle.std.specs.Prelude.{IsSome}
 use Rattle.std.specs.Option.{option_map, option_map_or}
 use Rattle.std.proofs.lemmas.Bool.{false≢true}
 use Rattle.surf_kinds.specs.declared.site.Sites.{Sites}
+use Rattle.surf_kinds.specs.Steps.{site_of_place}
 use Rattle.lattice.specs.Shape.{Shape}
 use Rattle.lattice.specs.Places.{forward, back, sites_of, IsPlace}
-use Rattle.lattice.proofs.Sites.{described}
-use Rattle.lattice.proofs.Steps.{stands_at}
+use Rattle.lattice.specs.Rows.{row_of_place}
+use Rattle.lattice.proofs.LawLemmas.{first_is, first_below, row_below}
 use Rattle.regions.specs.Bands.{Bands, IsCut, has_row, region_of, owner_of}
 use Rattle.regions.proofs.Rows.{region_has}
-
--- the row of a place's first site
-abbrev pub row_at : Shape → ℕ → ℕ
-row_at l place = place / 8 / l.cols
 
 -- the regions of the rows above and below a row
 abbrev pub above : Bands → ℕ → Option ℕ
@@ -30,18 +27,15 @@ some_of (Some p) h = (p, refl)
 pub sites_at : (l : Shape) (place : ℕ) → IsPlace l place → (p : Sites) × (sites_of l place ≡ Some p)
 sites_at l place h = some_of (sites_of l place) h
 
--- the first site is a site of the lattice, and so is its row
-pub number_below : (l : Shape) (place : ℕ) (p : Sites) → sites_of l place ≡ Some p → place / 8 < l.rows * l.cols
-number_below l place p is = (described l place p is).below
+-- the first site is a site of the lattice
+pub number_below : (l : Shape) (place : ℕ) (p : Sites) → sites_of l place ≡ Some p → site_of_place place < l.rows * l.cols
+number_below l place p is = subst (λ k. k < l.rows * l.cols) (first_is l place p is) (first_below l place p is)
 
-pub owner_is : (b : Bands) (place : ℕ) (p : Sites) → sites_of b.lattice place ≡ Some p → owner_of b place ≡ region_of b (row_at b.lattice place)
+pub owner_is : (b : Bands) (place : ℕ) (p : Sites) → sites_of b.lattice place ≡ Some p → owner_of b place ≡ region_of b (row_of_place b.lattice place)
 unfolding owner_of
 owner_is b place p is =
     ap (λ o. option_map_or (λ (x : Sites). region_of b (x.first.0 / b.lattice.cols)) o 0) is
-    ∙ ap (λ s. region_of b (s / b.lattice.cols)) (described b.lattice place p is).first
-
-pub row_below : (l : Shape) (place : ℕ) (p : Sites) → sites_of l place ≡ Some p → row_at l place < l.rows
-row_below l place p is = (stands_at l.rows l.cols (place / 8) (number_below l place p is)).row
+    ∙ ap (λ s. region_of b (s / b.lattice.cols)) (first_is b.lattice place p is)
 
 some_owner : (b : Bands) (o : Option Sites) → IsCut b → ((p : Sites) → o ≡ Some p → p.first.0 / b.lattice.cols < b.lattice.rows) → option_map_or (λ (p : Sites). region_of b (p.first.0 / b.lattice.cols)) o 0 < b.count
 some_owner b None cut within = omega (arith, cut.at_least)
@@ -51,10 +45,10 @@ some_owner b (Some p) cut within = (region_has b (p.first.0 / b.lattice.cols) cu
 pub owner_below : (b : Bands) (place : ℕ) → IsCut b → owner_of b place < b.count
 unfolding owner_of
 owner_below b place cut =
-    some_owner b (sites_of b.lattice place) cut (λ p is. subst (λ s. s / b.lattice.cols < b.lattice.rows) (sym (described b.lattice place p is).first) (row_below b.lattice place p is))
+    some_owner b (sites_of b.lattice place) cut (λ p is. subst (λ s. s / b.lattice.cols < b.lattice.rows) (sym (first_is b.lattice place p is)) (row_below b.lattice place p is))
 
 -- the owner has the row of the first site
 pub owner_has : (b : Bands) (place : ℕ) (p : Sites) → IsCut b → sites_of b.lattice place ≡ Some p → has_row b (owner_of b place) (p.first.0 / b.lattice.cols) ≡ true
 owner_has b place p cut is =
-    subst (λ s. has_row b (owner_of b place) (s / b.lattice.cols) ≡ true) (sym (described b.lattice place p is).first)
-    (subst (λ k. has_row b k (row_at b.lattice place) ≡ true) (sym (owner_is b place p is)) (region_has b (row_at b.lattice place) cut (row_below b.lattice place p is)).has)
+    subst (λ s. has_row b (owner_of b place) (s / b.lattice.cols) ≡ true) (sym (first_is b.lattice place p is))
+    (subst (λ k. has_row b k (row_of_place b.lattice place) ≡ true) (sym (owner_is b place p is)) (region_has b (row_of_place b.lattice place) cut (row_below b.lattice place p is)).has)

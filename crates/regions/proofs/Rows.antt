@@ -11,7 +11,7 @@ pub record Within (b : Bands) (region row : ℕ) : Type 0 where
   pub from : region * b.lattice.rows < (row + 1) * b.count
   pub upto : (row + 1) * b.count ≤ (region + 1) * b.lattice.rows
 
-within : (b : Bands) (region row : ℕ) → 1 ≤ b.count → has_row b region row ≡ true → Within b region row
+pub within : (b : Bands) (region row : ℕ) → 1 ≤ b.count → has_row b region row ≡ true → Within b region row
 within b region row one h =
     let parts = and_parts (nat_le (first_row b region) row) (nat_lt row (first_row b (region + 1))) h in
     let some : zero < b.count = omega arith in

@@ -1,5 +1,5 @@
 -- The sites that a region sees, by rows.
-use Rattle.std.proofs.Common.{◌≡◌, ℕ, ◌*◌, ◌/◌, ◌<◌, Option, Some, None, Bool, true, false, ◌==◌, ◌&&◌, ◌⊎◌, inl, inr, refl, sym, ap, ◌∙◌, subst, arith}
+use Rattle.std.proofs.Common.{◌≡◌, ℕ, ◌*◌, ◌/◌, ◌<◌, Option, Some, None, Bool, true, false, ◌==◌, ◌&&◌, ◌⊎◌, inl, inr, refl, sym, ap, ◌∙◌, subst}
 use Rattle.std.specs.Option.{option_map, option_map_or}
 use Rattle.std.specs.Bool.{Decides}
 use Rattle.std.proofs.lemmas.Bool.{false≢true, or_cases, or_left, or_right, eqb-true, eq-eqb}
@@ -7,15 +7,16 @@ use Rattle.std.proofs.lemmas.Bool.Decides.{same_from_decides, Decides-eqb, Decid
 use Rattle.std.proofs.lemmas.Option.{none-some, same_Some}
 use Rattle.surf_kinds.specs.declared.site.SiteId.{SiteId}
 use Rattle.surf_kinds.specs.declared.site.Sites.{Sites}
+use Rattle.surf_kinds.specs.declared.place.Step.TheVariants.{Alone}
+use Rattle.surf_kinds.specs.Steps.{number_of_place, end_of_places}
+use Rattle.surf_kinds.proofs.Steps.{site_of_number}
 use Rattle.lattice.specs.Shape.{Shape}
 use Rattle.lattice.specs.Places.{back, sites_of, IsAmong, HasSite}
-use Rattle.lattice.proofs.Slots.{alone_is}
-use Rattle.lattice.proofs.Steps.{forward_back}
-use Rattle.lattice.proofs.Laws.{place_below}
+use Rattle.lattice.specs.Rows.{row_of_place}
+use Rattle.lattice.proofs.LawLemmas.{place_below, site_alone, row_below, row_of_site, has_upper, row_back}
 use Rattle.regions.specs.Bands.{Bands, region_of, owner_of}
 use Rattle.regions.specs.Seen.{some_site, some_site_of, sees_upto, sees, Sees}
-use Rattle.regions.proofs.Owners.{row_at, above, owner_is, row_below}
-use Rattle.regions.proofs.Steps.{row_of_site, has_upper}
+use Rattle.regions.proofs.Owners.{above, owner_is}
 
 -- some site of the place passes the test
 pub record Passes (l : Shape) (test : ℕ → Bool) (place : ℕ) : Type 0 where
@@ -69,7 +70,7 @@ Decides-sees b region site =
     Decides-like _
     (λ x. record { place = x.0; own = x.2.own; has = x.2.has })
     (λ x. (x.place, place_below b.lattice x.place x.has.sites x.has.is, record { own = x.own; has = x.has }))
-    (Decides-below_or (λ q. owner_of b q == region && some_site_of b (λ s. s == site) q) (Shows b region site) (sees_upto b region site) (Decides-shows b region site) refl (λ _. refl) (8 * (b.lattice.rows * b.lattice.cols)))
+    (Decides-below_or (λ q. owner_of b q == region && some_site_of b (λ s. s == site) q) (Shows b region site) (sees_upto b region site) (Decides-shows b region site) refl (λ _. refl) (end_of_places (b.lattice.rows * b.lattice.cols)))
 
 -- a region sees the sites of its own rows, and of the row below them
 abbrev pub SeesRow : Bands → ℕ → ℕ → Type 0
@@ -77,12 +78,12 @@ SeesRow b region row = (region_of b row ≡ region) ⊎ (above b row ≡ Some re
 
 pub sees_row : (b : Bands) (region site : ℕ) → Sees b region site → SeesRow b region (site / b.lattice.cols)
 sees_row b region site x =
-    let own : region_of b (row_at b.lattice x.place) ≡ region = sym (owner_is b x.place x.has.sites x.has.is) ∙ x.own in
+    let own : region_of b (row_of_place b.lattice x.place) ≡ region = sym (owner_is b x.place x.has.sites x.has.is) ∙ x.own in
     let below = row_below b.lattice x.place x.has.sites x.has.is in
     elim (row_of_site b.lattice x.place site x.has) [
       | inl same ↦ inl (ap (region_of b) same ∙ own)
       | inr next ↦
-          let back_is = (forward_back b.lattice.wrap b.lattice.rows).undone (row_at b.lattice x.place) (site / b.lattice.cols) below next.1 in
+          let back_is = row_back b.lattice (row_of_place b.lattice x.place) (site / b.lattice.cols) below next.1 in
           inr (ap (option_map (region_of b)) back_is ∙ ap (λ k. Some k) own)
     ]
 
@@ -92,11 +93,10 @@ mapped f (Some x) y e = (x, refl, same_Some _ _ e)
 
 pub row_seen : (b : Bands) (region site : ℕ) → site < b.lattice.rows * b.lattice.cols → SeesRow b region (site / b.lattice.cols) → Sees b region site
 row_seen b region site h (inl own) =
-    let is = alone_is b.lattice site (8 * site) h refl in
-    let number : 8 * site / 8 ≡ site = omega arith in
+    let is = site_alone b.lattice site h in
     record {
-      place = 8 * site;
-      own = owner_is b (8 * site) _ is ∙ ap (λ k. region_of b (k / b.lattice.cols)) number ∙ own;
+      place = number_of_place site Alone;
+      own = owner_is b (number_of_place site Alone) _ is ∙ ap (λ k. region_of b (k / b.lattice.cols)) (site_of_number site Alone) ∙ own;
       has = record { sites = record { first = record { 0 = site }; second = None }; is = is; among = inl refl };
     }
 row_seen b region site h (inr is) =
@@ -104,7 +104,7 @@ row_seen b region site h (inr is) =
     let upper = has_upper b.lattice site row.0 h row.1 in
     record {
       place = upper.place;
-      own = owner_is b upper.place upper.sites upper.is ∙ ap (region_of b) upper.row_is ∙ row.2;
+      own = owner_is b upper.place upper.has.sites upper.has.is ∙ ap (region_of b) upper.row_is ∙ row.2;
       has = upper.has;
     }
 

@@ -1,18 +1,18 @@
 -- The regions that are told of an event, by rows.
-use Rattle.std.proofs.Common.{◌≡◌, ◌≢◌, ℕ, ◌/◌, ◌%◌, ◌<◌, ◌≤◌, Option, Some, true, false, ◌==◌, not, ◌⊎◌, ◌↔◌, inl, inr, refl, sym, ap, ◌∙◌, subst, arith}
+use Rattle.std.proofs.Common.{◌≡◌, ◌≢◌, ℕ, ◌/◌, ◌<◌, Option, Some, true, false, ◌==◌, not, ◌⊎◌, ◌↔◌, inl, inr, refl, sym, ap, ◌∙◌, subst, arith}
 use Rattle.std.specs.Option.{option_map}
 use Rattle.std.specs.Bool.{Decides}
 use Rattle.std.proofs.lemmas.Bool.{both_ways, false_from_ne_true}
 use Rattle.std.proofs.lemmas.Bool.Decides.{Decides-eqb, Decides-not, Decides-and, Decides-like}
 use Rattle.std.proofs.lemmas.Option.{same_Some}
 use Rattle.surf_kinds.specs.declared.site.Sites.{Sites}
+use Rattle.surf_kinds.specs.Steps.{site_of_place}
 use Rattle.lattice.specs.Places.{sites_of, HasSite}
-use Rattle.lattice.proofs.Sites.{described}
-use Rattle.lattice.proofs.Steps.{forward_back}
+use Rattle.lattice.specs.Rows.{row_of_place, goes_down}
+use Rattle.lattice.proofs.LawLemmas.{row_below, row_of_site, has_first, has_lower, row_back}
 use Rattle.regions.specs.Bands.{Bands, IsCut, region_of, owner_of}
 use Rattle.regions.specs.Seen.{some_site_of, sees, is_told, IsTold}
-use Rattle.regions.proofs.Owners.{row_at, above, below, owner_is, owner_below, row_below}
-use Rattle.regions.proofs.Steps.{row_of_site, has_first, has_lower}
+use Rattle.regions.proofs.Owners.{above, below, number_below, owner_is, owner_below}
 use Rattle.regions.proofs.Sights.{Decides-some_site_of, Decides-sees, sees_row, row_seen}
 
 -- a region is told exactly where the place is another's and it sees one of the sites
@@ -28,14 +28,14 @@ Decides-is_told b region place =
 
 -- it has the row above, or of a pair of two rows the row below
 pub record ToldRow (b : Bands) (region place : ℕ) : Type 0 where
-  pub other : region_of b (row_at b.lattice place) ≢ region
-  pub near : (above b (row_at b.lattice place) ≡ Some region)
-      ⊎ ((2 ≤ place % 8) × (below b (row_at b.lattice place) ≡ Some region))
+  pub other : region_of b (row_of_place b.lattice place) ≢ region
+  pub near : (above b (row_of_place b.lattice place) ≡ Some region)
+      ⊎ ((goes_down place ≡ true) × (below b (row_of_place b.lattice place) ≡ Some region))
 
 pub told_row : (b : Bands) (region place : ℕ) → IsTold b region place → ToldRow b region place
 told_row b region place x =
     let own = owner_is b place x.has.sites x.has.is in
-    let differ : region_of b (row_at b.lattice place) ≢ region = λ e. x.other (own ∙ e) in
+    let differ : region_of b (row_of_place b.lattice place) ≢ region = λ e. x.other (own ∙ e) in
     let within = row_below b.lattice place x.has.sites x.has.is in
     record {
       other = differ;
@@ -47,7 +47,7 @@ told_row b region place x =
         | inr next ↦ elim (sees_row b region x.site x.seen) [
           | inl has ↦ inr (next.0, ap (option_map (region_of b)) next.1 ∙ ap (λ k. Some k) has)
           | inr up ↦
-              let back_is = (forward_back b.lattice.wrap b.lattice.rows).undone (row_at b.lattice place) (x.site / b.lattice.cols) within next.1 in
+              let back_is = row_back b.lattice (row_of_place b.lattice place) (x.site / b.lattice.cols) within next.1 in
               absurd (differ (same_Some _ _ (sym (ap (option_map (region_of b)) back_is) ∙ up)))
         ]
       ];
@@ -59,9 +59,9 @@ row_told b region place p is x =
     elim x.near [
       | inl up ↦ record {
         other = other;
-        site = place / 8;
+        site = site_of_place place;
         has = has_first b.lattice place p is;
-        seen = row_seen b region (place / 8) (described b.lattice place p is).below (inr up);
+        seen = row_seen b region (site_of_place place) (number_below b.lattice place p is) (inr up);
       }
       | inr down ↦
           let lower = has_lower b.lattice place p is down.0 in
@@ -77,13 +77,13 @@ row_told b region place p is x =
 abbrev pub IsOtherAbove : Bands → ℕ → Option ℕ → Type 0
 IsOtherAbove b place found =
     (r : ℕ) → (found ≡ Some r)
-    ↔ ((above b (row_at b.lattice place) ≡ Some r) × (region_of b (row_at b.lattice place) ≢ r))
+    ↔ ((above b (row_of_place b.lattice place) ≡ Some r) × (region_of b (row_of_place b.lattice place) ≢ r))
 
 -- what is found is, of a pair of two rows, the other region with the row below
 abbrev pub IsOtherBelow : Bands → ℕ → Option ℕ → Type 0
 IsOtherBelow b place found =
     (r : ℕ) → (found ≡ Some r)
-    ↔ ((2 ≤ place % 8) × (below b (row_at b.lattice place) ≡ Some r) × (region_of b (row_at b.lattice place) ≢ r))
+    ↔ ((goes_down place ≡ true) × (below b (row_of_place b.lattice place) ≡ Some r) × (region_of b (row_of_place b.lattice place) ≢ r))
 
 -- these two are the regions that are told
 pub told_listed : (b : Bands) (place : ℕ) (p : Sites) (up down : Option ℕ) → sites_of b.lattice place ≡ Some p
@@ -113,8 +113,8 @@ pub two_told : (b : Bands) (place i j k : ℕ) → is_told b i place ≡ true �
 two_told b place i j k p q r = two_of _ _ i j k (near i p) (near j q) (near k r)
   where
     near : (r : ℕ) → is_told b r place ≡ true
-        → (above b (row_at b.lattice place) ≡ Some r)
-        ⊎ (below b (row_at b.lattice place) ≡ Some r)
+        → (above b (row_of_place b.lattice place) ≡ Some r)
+        ⊎ (below b (row_of_place b.lattice place) ≡ Some r)
     near r h = elim (told_row b r place ((Decides-is_told b r place).0 h)).near [ inl up ↦ inl up | inr down ↦ inr down.1 ]
 
 -- a region that is told nothing of another's place sees none of its sites

@@ -1,2 +1,4 @@
 pub mod Bands
 pub mod Seen
+pub mod Ranges
+pub mod Neighbours

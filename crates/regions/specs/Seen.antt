@@ -4,6 +4,7 @@ use Rattle.std.specs.Option.{option_map_or}
 use Rattle.std.specs.List.Sorted.{IsStrictlyIncreasing}
 use Rattle.surf_kinds.specs.declared.site.SiteId.{SiteId}
 use Rattle.surf_kinds.specs.declared.site.Sites.{Sites}
+use Rattle.surf_kinds.specs.Steps.{end_of_places}
 use Rattle.lattice.specs.Places.{sites_of, HasSite}
 use Rattle.regions.specs.Bands.{Bands, owner_of}
 
@@ -21,9 +22,9 @@ sees_upto b region site zero = false
 sees_upto b region site (suc place) =
     (owner_of b place == region && some_site_of b (λ s. s == site) place) || sees_upto b region site place
 
--- a region sees the sites of its own places; every place is below 8 times the number of sites
+-- a region sees the sites of its own places
 unfoldable pub sees : Bands → ℕ → ℕ → Bool
-sees b region site = sees_upto b region site (8 * (b.lattice.rows * b.lattice.cols))
+sees b region site = sees_upto b region site (end_of_places (b.lattice.rows * b.lattice.cols))
 
 -- a region is told of the events at another's place where it sees one of the sites
 unfoldable pub is_told : Bands → ℕ → ℕ → Bool

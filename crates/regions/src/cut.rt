@@ -3,13 +3,17 @@
 ghost use Rattle.std.specs.Prelude.{◌≡◌, ◌≢◌, ℕ, ◌*◌, ◌/◌, ◌<◌, ◌≤◌, ◌↔◌, Some, take};
 ghost use Rattle.std.specs.Option.{option_map};
 ghost use Rattle.lattice.specs.Places.{IsPlace, wraps as wraps_at, forward, back};
+ghost use Rattle.lattice.specs.Rows.{row_of_place, goes_down};
 ghost use Rattle.regions.specs.Bands.{IsCut, cut_for, region_of as region_of_row, owner_of};
-ghost use Rattle.regions.specs.Seen.{sees as sees_site, AreTold};
+ghost use Rattle.regions.specs.Neighbours.{region_before, region_after, AreNeighbours};
+ghost use Rattle.regions.specs.Ranges.{first_place, range_of, IsRangeOf};
+ghost use Rattle.regions.specs.Seen.{sees as sees_site, is_told, AreTold};
 
+use crate::neighbours::Neighbours;
 use crate::region_list::RegionList;
-use lattice::Lattice;
+use lattice::{Lattice, PlaceRange};
 use std::marker::Model;
-use surf_kinds::{Event, Place, SiteId};
+use surf_kinds::{Event, Place, SiteId, Step};
 
 /// A lattice cut into bands of rows, one for each region.
 ///
@@ -58,6 +62,14 @@ impl Cut {
         self.count
     }
 
+    /// The lattice that is cut.
+    #[inline]
+    pub fn lattice(&self) -> &Lattice
+        ensures { result.now ≡ self.now.lattice }
+    {
+        &self.lattice
+    }
+
     /// The region that a place belongs to.
     #[inline]
     pub fn owner(&self, place: Place) -> u32
@@ -66,6 +78,21 @@ impl Cut {
         ensures below { result < self.now.count }
     {
         self.region_of(self.row_of(place))
+    }
+
+    /// The places of a region: those of its rows.
+    #[inline]
+    pub fn places(&self, region: u32) -> PlaceRange
+        requires { region < self.now.count }
+        ensures range { result ≡ range_of self.now region }
+        ensures own { IsRangeOf self.now region result }
+    {
+        // So the number after the region's is one too.
+        prove!(self.count() <= 64);
+        PlaceRange {
+            first: self.first_place(region),
+            end: self.first_place(region + 1),
+        }
     }
 
     /// Whether a region sees a site: whether one of the region's places has it.
@@ -87,11 +114,42 @@ impl Cut {
         ensures told { AreTold self.now event.now.place.0 (take result.count result.list) }
         ensures at_most { result.count ≤ 2 }
     {
-        let row = self.row_of(event.place);
+        self.told_at(event.place)
+    }
+
+    /// Whether a region is told of the events at a place of the lattice.
+    #[inline]
+    pub fn tells(&self, place: Place, region: u32) -> bool
+        requires { IsPlace self.now.lattice place.0 }
+        ensures { result ≡ is_told self.now region place.0 }
+    {
+        self.told_at(place).has(region)
+    }
+
+    /// The neighbours of a region.
+    pub fn neighbours(&self, region: u32) -> Neighbours
+        requires { region < self.now.count }
+        ensures { AreNeighbours self.now region result.first result.second }
+    {
+        let first = other(self.region_before(region), region);
+        let second = other(self.region_after(region), region);
+        Neighbours {
+            first,
+            second: unless(second, first),
+        }
+    }
+
+    /// The regions that the events at a place are told to.
+    #[inline]
+    fn told_at(&self, place: Place) -> RegionList
+        requires { IsPlace self.now.lattice place.0 }
+        ensures told { AreTold self.now place.0 (take result.count result.list) }
+        ensures at_most { result.count ≤ 2 }
+    {
+        let row = self.row_of(place);
         let owner = self.region_of(row);
         let above = other(self.region_above(row), owner);
-        // A step to the south or the south-west leads to the next row.
-        let below = if event.place.0 % 8 >= 2 {
+        let below = if goes_down(place) {
             other(self.region_below(row), owner)
         } else {
             None
@@ -99,15 +157,53 @@ impl Cut {
         RegionList::of(above, below)
     }
 
+    /// The first place of a region's first row. Of the region after the last one it is the end of all places.
+    #[inline]
+    fn first_place(&self, region: u32) -> u64
+        requires { region ≤ self.now.count }
+        ensures { result ≡ first_place self.now region }
+    {
+        let row = region * self.lattice.rows() / self.count;
+        Place::at(SiteId(row * self.lattice.cols()), Step::Alone).0
+    }
+
+    /// The region before one, where there is one.
+    fn region_before(&self, region: u32) -> Option<u32>
+        ensures { result ≡ region_before self.now region }
+    {
+        if region > 0 {
+            Some(region - 1)
+        } else if self.wraps() {
+            Some(self.count - 1)
+        } else {
+            None
+        }
+    }
+
+    /// The region after one, where there is one.
+    fn region_after(&self, region: u32) -> Option<u32>
+        requires { region < self.now.count }
+        ensures { result ≡ region_after self.now region }
+    {
+        let count = self.count();
+        if region + 1 < count {
+            Some(region + 1)
+        } else if self.wraps() {
+            Some(0)
+        } else {
+            None
+        }
+    }
+
     /// The row of a place's first site.
     #[inline]
     fn row_of(&self, place: Place) -> u32
         requires { IsPlace self.now.lattice place.0 }
-        ensures row { result ≡ place.0 / 8 / self.now.lattice.cols }
+        ensures row { result ≡ row_of_place self.now.lattice place.0 }
         ensures within { result < self.now.lattice.rows }
     {
         let cols = self.lattice.cols();
-        (place.0 / 8) as u32 / cols
+        place.site() as u32 / cols
     }
 
     /// The region that has a row.
@@ -162,13 +258,32 @@ impl Cut {
     }
 }
 
-/// The region, where it is another than the owner.
+/// Whether a place's second site is in the row after that of its first.
 #[inline]
-fn other(region: Option<u32>, owner: u32) -> Option<u32>
-    ensures { (r : ℕ) → (result ≡ Some r) ↔ ((region ≡ Some r) × (owner ≢ r)) }
+fn goes_down(place: Place) -> bool
+    ensures { result ≡ goes_down place.0 }
+{
+    match place.step() {
+        Some(Step::South) => true,
+        Some(Step::SouthWest) => true,
+        _ => false,
+    }
+}
+
+/// The region, where it is another than this one.
+#[inline]
+fn other(region: Option<u32>, than: u32) -> Option<u32>
+    ensures { (r : ℕ) → (result ≡ Some r) ↔ ((region ≡ Some r) × (than ≢ r)) }
 {
     match region {
-        Some(region) if region != owner => Some(region),
+        Some(region) if region != than => Some(region),
         _ => None,
     }
+}
+
+/// The second of two regions, where it is not the first.
+fn unless(second: Option<u32>, first: Option<u32>) -> Option<u32>
+    ensures { (r : ℕ) → (result ≡ Some r) ↔ ((second ≡ Some r) × (first ≢ Some r)) }
+{
+    if second == first { None } else { second }
 }

@@ -1,9 +1,11 @@
 //! Laws of a cut, over its definitions alone.
 
-ghost use Rattle.std.specs.Prelude.{◌≡◌, ◌≢◌, ◌/◌, ◌<◌, ◌⊎◌, ◌↔◌, ℕ, IsTrue, Some, false};
+ghost use Rattle.std.specs.Prelude.{◌≡◌, ◌≢◌, ◌/◌, ◌<◌, ◌⊎◌, ◌↔◌, ℕ, IsTrue, Some, true, false};
 ghost use Rattle.surf_kinds.specs.declared.site.Sites.{Sites};
-ghost use Rattle.lattice.specs.Places.{sites_of, HasSite};
+ghost use Rattle.lattice.specs.Places.{sites_of, HasSite, IsPlace};
 ghost use Rattle.regions.specs.Bands.{Bands, IsCut, first_row, has_row, owner_of};
+ghost use Rattle.regions.specs.Neighbours.{region_before, region_after, IsNeighbour, Meeting};
+ghost use Rattle.regions.specs.Ranges.{range_of, IsRangeOf};
 ghost use Rattle.regions.specs.Seen.{sees, is_told, Sees, IsTold};
 
 /// Every row of the lattice belongs to exactly one region, every row of a region is a row of the lattice, and each
@@ -37,4 +39,23 @@ pub fn at_most_two_are_told()
     ensures unseen { (b : Bands) (region place site : ℕ) → owner_of b place ≢ region → is_told b region place ≡ false → HasSite b.lattice place site → sees b region site ≡ false }
     ensures itself { (b : Bands) (place : ℕ) → is_told b (owner_of b place) place ≡ false }
     ensures below { (b : Bands) (region place : ℕ) → IsCut b → IsTrue (is_told b region place) → region < b.count }
+{}
+
+/// The places of a region are those of a range of numbers.
+pub fn own_places_are_a_range()
+    ensures { (b : Bands) (region : ℕ) → IsCut b → region < b.count → IsRangeOf b region (range_of b region) }
+{}
+
+/// The events of a region are told to no other region than the one before it and the one after it.
+pub fn neighbours_alone()
+    ensures { (b : Bands) (region place : ℕ) → IsCut b → IsPlace b.lattice place → is_told b region place ≡ true → (region_before b (owner_of b place) ≡ Some region) ⊎ (region_after b (owner_of b place) ≡ Some region) }
+{}
+
+/// A region that is told of another's events is a neighbour, and each neighbour is told of some. Neighbours are regions,
+/// and each is one of the other.
+pub fn neighbours_are_told()
+    ensures told { (b : Bands) (region place : ℕ) → IsCut b → is_told b region place ≡ true → IsNeighbour b (owner_of b place) region }
+    ensures each { (b : Bands) (region other : ℕ) → IsCut b → region < b.count → IsNeighbour b region other → Meeting b region other }
+    ensures below { (b : Bands) (region other : ℕ) → IsCut b → region < b.count → IsNeighbour b region other → other < b.count }
+    ensures both { (b : Bands) (region other : ℕ) → IsCut b → region < b.count → IsNeighbour b region other → IsNeighbour b other region }
 {}

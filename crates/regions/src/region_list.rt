@@ -1,6 +1,6 @@
 //! A short list of regions.
 
-ghost use Rattle.std.specs.Prelude.{◌≡◌, ◌≤◌, ◌⊎◌, ◌↔◌, ℕ, Some, Contains, take};
+ghost use Rattle.std.specs.Prelude.{◌≡◌, ◌≤◌, ◌⊎◌, ◌↔◌, ℕ, Some, Contains, IsTrue, take};
 ghost use Rattle.std.specs.List.Sorted.{IsStrictlyIncreasing};
 
 /// Up to two regions, rising: the first `count` of the list. The others mean nothing.
@@ -11,6 +11,15 @@ pub struct RegionList {
 }
 
 impl RegionList {
+    /// Whether the region is one of the list.
+    #[inline]
+    pub fn has(&self, region: u32) -> bool
+        requires { self.now.count ≤ 2 }
+        ensures { IsTrue result ↔ Contains (take self.now.count self.now.list) region }
+    {
+        self.list[..usize::from(self.count)].contains(&region)
+    }
+
     /// The regions that there are, each once.
     #[inline]
     pub(crate) fn of(a: Option<u32>, b: Option<u32>) -> RegionList

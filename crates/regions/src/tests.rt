@@ -1,11 +1,14 @@
-ghost use Rattle.std.specs.Prelude.{◌≤◌};
+ghost use Rattle.std.specs.Prelude.{◌≡◌, ◌≤◌};
 
 use super::*;
-use lattice::{Kind, Lattice};
+use lattice::{Kind, Lattice, PlaceRange};
 use std::test::Fail;
 use surf_kinds::{Event, Place, SiteId};
 
-fn needs_sync<T: Sync>(value: T) -> T {
+// As what a worker holds, or several share.
+fn needs_both<T: Send + Sync>(value: T) -> T
+    ensures { result ≡ value }
+{
     value
 }
 
@@ -36,7 +39,10 @@ fn is_told_to(lattice: &Lattice, workers: u32, place: u64, regions: &[u32]) -> b
         None => false,
         Some(_) => {
             let told = cut.told(&event);
-            &told.list[..usize::from(told.count)] == regions
+            let each = regions
+                .iter()
+                .all(|region| cut.tells(Place(place), *region));
+            &told.list[..usize::from(told.count)] == regions && each
         }
     }
 }
@@ -72,7 +78,7 @@ fn each_of_eight_rows_is_a_region(rt: HostRuntime) -> Result<(), Fail> {
 #[test]
 fn the_second_of_two_regions_has_two_of_three_rows(rt: HostRuntime) -> Result<(), Fail> {
     let lattice = Lattice::new(Kind::Square, 3, 2, false)?;
-    let cut = needs_sync(Cut::bands(&lattice, 2));
+    let cut = needs_both(Cut::bands(&lattice, 2));
     assert_eq!(rt; cut.count(), 2);
     assert_eq!(rt; owner(&lattice, 2, 0), Some(0));
     assert_eq!(rt; owner(&lattice, 2, 16), Some(1));
@@ -80,6 +86,22 @@ fn the_second_of_two_regions_has_two_of_three_rows(rt: HostRuntime) -> Result<()
     assert!(rt; is_told_to(&lattice, 2, 2, &[1]));
     assert!(rt; is_told_to(&lattice, 2, 18, &[0]));
     assert!(rt; is_told_to(&lattice, 2, 32, &[]));
+    Ok(())
+}
+
+#[test]
+fn a_region_has_its_rows_and_its_neighbours(rt: HostRuntime) -> Result<(), Fail> {
+    let lattice = Lattice::new(Kind::Square, 3, 2, false)?;
+    let cut = Cut::bands(&lattice, 2);
+    assert_eq!(rt; *cut.lattice(), lattice);
+    // Row 0 has the sites 0 and 1, and so the places below that of site 2 alone.
+    let places = cut.places(0);
+    assert_eq!(rt; places, PlaceRange { first: 0, end: 16 });
+    assert!(rt; places.has(Place(10)));
+    assert!(rt; !places.has(Place(16)));
+    assert_eq!(rt; cut.places(1), PlaceRange { first: 16, end: 48 });
+    assert_eq!(rt; cut.neighbours(0).first, None);
+    assert_eq!(rt; cut.neighbours(0).second, Some(1));
     Ok(())
 }
 

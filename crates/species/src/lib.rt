@@ -1,10 +1,11 @@
-//! The names of the species, each kept once and numbered in the order in which they first came.
+//! Names and their numbers.
 //!
-//! [`Names`] promises that a name keeps its number for good, that a new name gets the next number, and that no
-//! more than 4,096 are kept. [`Texts`] is the same without numbers and without a limit: it only tells which texts
-//! came before. Both stand on the set in insertion order of the crate `indexmap`.
+//! [`Texts`] is a list of distinct texts, numbered in the order in which they first came. [`Names`] is such a list for the
+//! names of species: a name keeps its number for good, a new name gets the next number, and there are no more than 4,096.
+//! Both stand on the set in insertion order of the crate `indexmap`.
 #![tactic(auto)]
 
+pub mod laws;
 mod names;
 mod texts;
 

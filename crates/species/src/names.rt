@@ -2,18 +2,28 @@
 
 ghost use Rattle.std.specs.Prelude.{◌≡◌, ◌<◌, ◌≤◌, ◌↔◌, [], length, slice_get, Some, Err, IfOk, IsNone, OnOk, OnErr, true, false};
 
-use indexmap::IndexSet;
+use crate::texts::Texts;
 use std::alloc::Global;
 use std::marker::Model;
-use surf_kinds::SpeciesId;
+use surf_kinds::{NoMemory, SpeciesId};
 
-/// Why a name was not kept.
+/// Why a name got no number.
 #[derive(Clone, Copy, Debug, PartialEq, Eq)]
 pub enum NameError {
-    /// As many names as can be numbered are kept already.
+    /// There are as many names already as can be numbered.
     TooMany,
     /// Memory ran out.
     Memory,
+}
+
+impl From<NoMemory> for NameError {
+    ghost use Rattle.species.specs.declared.names.NameError.TheVariants as error;
+
+    ghost from_gives = { λ _ e. e ≡ error.Memory };
+
+    fn from(_error: NoMemory) -> NameError {
+        NameError::Memory
+    }
 }
 
 const MOST_NAMES: usize = 4096;
@@ -22,18 +32,17 @@ const MOST_NAMES: usize = 4096;
 /// number of a name is its index in that list.
 #[derive(Drop)]
 pub struct Names {
-    texts: IndexSet<String>,
+    texts: Texts,
 }
 
 impl Model for Names {
-    ghost use Rattle.std.specs.Prelude.{ℕ, List, map, ◌≤◌, length};
-    ghost use Rattle.std.specs.String.{string_bytes};
+    ghost use Rattle.std.specs.Prelude.{ℕ, List, ◌≤◌, length};
 
     ghost Value = { List (List ℕ) };
 
-    ghost view = { λ n. map string_bytes n.texts.keys };
+    ghost view = { λ n. n.texts };
 
-    ghost invariant = { λ n. length n.texts.keys ≤ 4096 };
+    ghost invariant = { λ n. length n.texts ≤ 4096 };
 }
 
 impl Names {
@@ -47,7 +56,7 @@ impl Names {
         ensures { result ≡ [] }
     {
         Names {
-            texts: IndexSet::new(alloc),
+            texts: Texts::new(alloc),
         }
     }
 
@@ -57,14 +66,14 @@ impl Names {
         ensures at_most { result ≤ 4096 }
         ensures distinct { IsDistinct bytes_eq self.now }
     {
-        self.texts.len() as u32
+        self.texts.count() as u32
     }
 
-    /// The number of a name; `None` exactly where the name is not kept.
+    /// The number of a name; `None` exactly where it isn't in the list.
     pub fn find(&self, name: &str) -> Option<SpeciesId>
         ensures { result ≡ number_of self.now name.now }
     {
-        match self.texts.get_index_of(name) {
+        match self.texts.find(name) {
             Some(index) => Some(SpeciesId(index as u16)),
             None => None,
         }
@@ -75,7 +84,7 @@ impl Names {
         requires { id.0 < length self.now }
         ensures { slice_get self.now id.0 ≡ Some result.now }
     {
-        self.texts.as_slice()[id.0 as usize].as_str()
+        self.texts.text(id.0 as usize)
     }
 
     /// The number of a name, which goes last if it is new. After an error the names are as they were. `Memory`
@@ -95,17 +104,11 @@ impl Names {
         if let Some(id) = self.find(name) {
             return Ok(id);
         }
-        let index = self.texts.len();
+        let index = self.texts.count();
         if index == MOST_NAMES {
             return Err(NameError::TooMany);
         }
-        let alloc = *self.texts.allocator();
-        let Ok(text) = String::from_str(alloc, name) else {
-            return Err(NameError::Memory);
-        };
-        let Ok(_) = self.texts.insert(text) else {
-            return Err(NameError::Memory);
-        };
+        self.texts.add(name)?;
         Ok(SpeciesId(index as u16))
     }
 }

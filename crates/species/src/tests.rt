@@ -2,13 +2,14 @@ use super::*;
 use std::test::Fail;
 use surf_kinds::SpeciesId;
 
-fn needs_sync<T: Sync>(value: T) -> T {
+/// Hands a value on whose type may be sent to other threads and shared between them.
+fn shared<T: Send + Sync>(value: T) -> T {
     value
 }
 
 #[test]
 fn names_are_numbered(rt: HostRuntime) -> Result<(), Fail> {
-    let mut names = needs_sync(Names::new(rt.alloc()));
+    let mut names = shared(Names::new(rt.alloc()));
     assert_eq!(rt; names.count(), 0);
     for (name, number) in [("A", 0), ("BB", 1), ("A", 0), ("a", 2), ("é", 3), ("BB", 1)] {
         assert_eq!(rt; names.intern(name), Ok(SpeciesId(number)));
@@ -25,11 +26,16 @@ fn names_are_numbered(rt: HostRuntime) -> Result<(), Fail> {
 }
 
 #[test]
-fn texts_are_remembered(rt: HostRuntime) -> Result<(), Fail> {
-    let mut texts = needs_sync(Texts::new(rt.alloc()));
-    texts.add("rng_seed")?;
-    texts.add("rng_seed")?;
+fn texts_are_numbered(rt: HostRuntime) -> Result<(), Fail> {
+    let mut texts = shared(Texts::new(rt.alloc()));
+    for text in ["rng_seed", "é", "rng_seed"] {
+        texts.add(text)?;
+    }
+    assert_eq!(rt; texts.count(), 2);
     assert!(rt; texts.has("rng_seed"));
     assert!(rt; !texts.has("rng"));
+    assert_eq!(rt; texts.find("é"), Some(1));
+    assert_eq!(rt; texts.find("e"), None);
+    assert_eq!(rt; texts.text(1), "é");
     Ok(())
 }

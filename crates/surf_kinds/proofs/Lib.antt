@@ -1,1 +1,5 @@
-pub mod Wholes
+pub mod Fractions
+pub mod Order
+pub mod Tables
+pub mod Rising
+pub mod Steps

@@ -1,3 +1,5 @@
 pub mod Keys
+pub mod Steps
+pub mod Channels
 pub mod Rates
 pub mod Status

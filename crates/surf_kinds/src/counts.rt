@@ -1,6 +1,6 @@
 //! How many sites hold each species.
 
-ghost use Rattle.std.specs.Prelude.{◌≡◌, ◌++◌, ◌∷◌, [], OnOk, OnErr};
+ghost use Rattle.std.specs.Prelude.{◌≡◌, ◌<◌, ◌++◌, ◌∷◌, [], OnOk, OnErr, length, slice_set};
 
 use crate::status::NoMemory;
 use std::alloc::Global;
@@ -35,10 +35,16 @@ impl Counts {
         ensures ok { OnOk result (self.new ≡ self.old ++ item ∷ []) }
         ensures err { OnErr result (self.new ≡ self.old) }
     {
-        match self.counts.push(item) {
-            Ok(()) => Ok(()),
-            Err(_) => Err(NoMemory),
-        }
+        self.counts.push(item)?;
+        Ok(())
+    }
+
+    /// Puts another count in place of one. Takes no memory.
+    pub fn set(&mut self, index: usize, count: u64)
+        requires { index < length self.old }
+        ensures { self.new ≡ slice_set self.old index count }
+    {
+        self.counts[index] = count;
     }
 
     pub fn as_slice(&self) -> &[u64]

@@ -5,17 +5,21 @@
 //! pair of neighbours), by a channel (a rule with the way in which its reactants stand). Events are ordered
 //! by their keys: by time, then by place.
 //!
-//! The crate stands on nothing but std, and promises the order of keys and the bounds of rates.
+//! The crate stands on nothing but std, and promises the order of keys, the parts of a place's number and of a
+//! channel's, and the bounds of rates.
 #![tactic(auto)]
 
 mod counts;
 mod event;
+pub mod laws;
+mod place;
 mod rule;
 mod site;
 mod status;
 
 pub use counts::Counts;
-pub use event::{Event, Key, Place};
+pub use event::{Event, Key, rule_of_channel, way_of_channel};
+pub use place::{Place, Step};
 pub use rule::{Rate, Rule};
 pub use site::{SiteId, SiteState, Sites, SpeciesId};
 pub use status::{NoMemory, Status};

@@ -3,9 +3,25 @@
 ghost use Rattle.std.specs.Prelude.{◌≡◌};
 ghost use Rattle.surf_kinds.specs.Status.{code_of};
 
+use std::alloc::{AllocError, AllocFailed};
+
 /// Memory ran out.
 #[derive(Clone, Copy, Debug, PartialEq, Eq)]
 pub struct NoMemory;
+
+/// Lets `?` pass on an allocation that failed.
+impl From<AllocError> for NoMemory {
+    fn from(_error: AllocError) -> NoMemory {
+        NoMemory
+    }
+}
+
+/// The same where the value that was not stored comes back with the error: it is dropped.
+impl<T: Drop> From<AllocFailed<T>> for NoMemory {
+    fn from(_error: AllocFailed<T>) -> NoMemory {
+        NoMemory
+    }
+}
 
 /// How a program ends.
 #[derive(Clone, Copy, Debug, PartialEq, Eq)]

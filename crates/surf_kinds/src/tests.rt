@@ -11,6 +11,7 @@ fn key(time: u64, place: u64) -> Key {
 #[test]
 fn keys_go_by_time_and_then_by_place(rt: HostRuntime) {
     assert!(rt; key(1, 9) < key(2, 0));
+    assert!(rt; key(1, 9).is_before(key(2, 0)));
     assert!(rt; key(1, 8) < key(1, 9));
     assert!(rt; key(1, 8) >= key(1, 8));
     let first = Key {
@@ -32,6 +33,18 @@ fn counts_are_kept_in_order(rt: HostRuntime) -> Result<(), Fail> {
     let mut counts = Counts::new(rt.alloc());
     counts.push(3)?;
     counts.push(0)?;
-    assert_eq!(rt; counts.as_slice(), [3, 0].as_slice());
+    counts.set(1, 5);
+    assert_eq!(rt; counts.as_slice(), [3, 5].as_slice());
     Ok(())
+}
+
+#[test]
+fn places_and_channels_are_taken_apart(rt: HostRuntime) {
+    let pair = Place::at(SiteId(2), Step::South);
+    assert_eq!(rt; pair, Place(18));
+    assert_eq!(rt; pair.site(), 2);
+    assert!(rt; pair.step() == Some(Step::South));
+    assert!(rt; Place(20).step() == None);
+    assert_eq!(rt; rule_of_channel(7), 3);
+    assert_eq!(rt; way_of_channel(7), 1);
 }

@@ -3,7 +3,7 @@ use Rattle.std.proofs.Common.{◌≡◌, ℕ, ◌+◌, ◌-◌, List, ◌++◌, 
 use Rattle.std.proofs.Math.Seq.{take-add, take-length, take-append-add, take-append_seam}
 use Rattle.std.proofs.lemmas.List.{take_all, length-drop, take-append-le}
 use Rattle.std.proofs.lemmas.Bool.{cases_lt}
-use Rattle.std.specs.Io.KnownBytes.{Appends, Consumes, Keeps}
+use Rattle.std.specs.Io.KnownBytes.{Appends, Consumes}
 use Rattle.surf_outside.specs.Known.{AppendsPrefix}
 
 -- one text and then another
@@ -18,13 +18,6 @@ pub appends_piece : (a b c : Option (List ℕ)) (text : List ℕ) (at n : ℕ) �
 appends_piece a b c text at n p q =
     let e : take (length text - at) (drop at text) ≡ drop at text = take_all (length text - at) (drop at text) (omega (arith, length-drop at text)) in
     subst (Appends a c) (sym (take-add at n text ∙ ap (λ l. take at text ++ take n l) (sym e))) (appends_more a b c _ _ p q)
-
--- nothing more
-pub appends_kept : (a b c : Option (List ℕ)) (x : List ℕ) → Appends a b x → Keeps b c → Appends a c x
-appends_kept None b c x p q = tt
-appends_kept (Some xs) None c x p q = absurd p
-appends_kept (Some xs) (Some ys) None x p q = absurd q
-appends_kept (Some xs) (Some ys) (Some zs) x p q = q ∙ p
 
 -- one part and then another
 pub consumes_more : (a b c : Option (List ℕ)) (x y : List ℕ) → Consumes a b x → Consumes b c y → Consumes a c (x ++ y)

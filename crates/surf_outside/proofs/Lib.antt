@@ -1,2 +1,4 @@
-pub mod Gains
-pub mod Copied
+mod Gains
+mod Copied
+mod PartTexts
+pub mod LawLemmas

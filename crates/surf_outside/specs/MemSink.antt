@@ -5,7 +5,7 @@ use Rattle.surf_outside.specs.Causes.{risen}
 -- a sink over memory
 pub record SinkState : Type 0 where
   -- the bytes that it holds
-  pub held : List ℕ
+  pub written : List ℕ
   -- how many more it has room for
   pub room : ℕ
   -- how many bytes a call moves at most
@@ -19,7 +19,7 @@ pub record SinkState : Type 0 where
 
 -- a call added bytes
 abbrev pub added : SinkState → List ℕ → SinkState
-added s bytes = record s { held = s.held ++ bytes; room = s.room - length bytes; calls = risen s.calls }
+added s bytes = record s { written = s.written ++ bytes; room = s.room - length bytes; calls = risen s.calls }
 
 -- a call failed
 abbrev pub write_failed : SinkState → SinkState

@@ -5,7 +5,7 @@ use Rattle.surf_outside.specs.Causes.{risen}
 -- a source over memory
 pub record SourceState : Type 0 where
   -- the bytes that are left
-  pub left : List ℕ
+  pub unread : List ℕ
   -- how many bytes a call moves at most
   pub most : ℕ
   -- the numbers of the calls that fail; the first call has number 1
@@ -17,7 +17,7 @@ pub record SourceState : Type 0 where
 
 -- a call took the first n bytes
 abbrev pub taken : SourceState → ℕ → SourceState
-taken s n = record s { left = drop n s.left; calls = risen s.calls }
+taken s n = record s { unread = drop n s.unread; calls = risen s.calls }
 
 -- a call failed
 abbrev pub read_failed : SourceState → SourceState

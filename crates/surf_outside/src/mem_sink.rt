@@ -13,7 +13,7 @@ use surf_kinds::NoMemory;
 /// A sink that keeps the bytes in memory, with little room, short writes and faults.
 #[derive(Drop)]
 pub struct MemSink {
-    held: Vec<u8>,
+    written: Vec<u8>,
     room: usize,
     most: usize,
     fails: Vec<u64>,
@@ -28,7 +28,7 @@ impl Model for MemSink {
     ghost Value = { SinkState };
 
     ghost view = { λ s. record {
-      held = s.held.items;
+      written = s.written.items;
       room = s.room;
       most = s.most;
       fails = s.fails.items;
@@ -36,7 +36,7 @@ impl Model for MemSink {
       faults = s.faults;
     } };
 
-    ghost invariant = { λ s. (vec_len s.held + s.room ≤ vec_capacity s.held) × (0 < s.most) };
+    ghost invariant = { λ s. (vec_len s.written + s.room ≤ vec_capacity s.written) × (0 < s.most) };
 }
 
 impl MemSink {
@@ -45,7 +45,7 @@ impl MemSink {
     pub fn new(alloc: Global, room: usize, most: usize, fails: &[u64]) -> Result<MemSink, NoMemory>
         requires { 1 ≤ most }
         ensures { IfOk result (λ sink. sink ≡ record {
-          held = [];
+          written = [];
           room = room;
           most = most;
           fails = fails.now;
@@ -53,14 +53,10 @@ impl MemSink {
           faults = 0;
         }) }
     {
-        let Ok(held) = Vec::with_capacity(alloc, room) else {
-            return Err(NoMemory);
-        };
-        let Ok(fails) = fails.to_vec(alloc) else {
-            return Err(NoMemory);
-        };
+        let written = Vec::with_capacity(alloc, room)?;
+        let fails = fails.to_vec(alloc)?;
         Ok(MemSink {
-            held,
+            written,
             room,
             most,
             fails,
@@ -71,9 +67,9 @@ impl MemSink {
 
     /// The bytes that the sink holds.
     pub fn bytes(&self) -> &[u8]
-        ensures { result.now ≡ self.now.held }
+        ensures { result.now ≡ self.now.written }
     {
-        &self.held
+        &self.written
     }
 
     /// How many calls have failed.
@@ -85,7 +81,7 @@ impl MemSink {
 }
 
 impl Sink for MemSink {
-    ghost held = { λ s. Some s.held };
+    ghost written = { λ s. Some s.written };
 
     ghost faults = { λ s. s.faults };
 
@@ -94,7 +90,7 @@ impl Sink for MemSink {
     fn write(&mut self, bytes: &[u8]) -> Result<usize, Failed>
         ensures bound { WritesAtMost result bytes.now }
         ensures progress { IfOk result (λ n. 0 < length bytes.now → 0 < n) }
-        ensures bytes { WriteAppends (Some self.old.held) (Some self.new.held) result bytes.now }
+        ensures bytes { WriteAppends (Some self.old.written) (Some self.new.written) result bytes.now }
         ensures cause { HasCause self.old.faults self.new.faults result }
 
         ensures fails { IsErr result ↔ (Contains self.old.fails (risen self.old.calls) ⊎ ((0 < length bytes.now) × (self.old.room ≡ 0))) }
@@ -109,7 +105,7 @@ impl Sink for MemSink {
         }
         let n = bytes.len().min(self.most).min(self.room);
         // The room was taken at the start, so this takes no memory and adds all of the piece.
-        let kept = self.held.extend_from_slice(&bytes[..n]);
+        let kept = self.written.extend_from_slice(&bytes[..n]);
         prove!(kept.is_ok());
         self.room -= n;
         Ok(n)

@@ -28,7 +28,7 @@ impl Model for MemSource {
     ghost Value = { SourceState };
 
     ghost view = { λ s. record {
-      left = drop s.at s.bytes.items;
+      unread = drop s.at s.bytes.items;
       most = s.most;
       fails = s.fails.items;
       calls = s.calls;
@@ -49,19 +49,15 @@ impl MemSource {
     ) -> Result<MemSource, NoMemory>
         requires { 1 ≤ most }
         ensures { IfOk result (λ source. source ≡ record {
-          left = bytes.now;
+          unread = bytes.now;
           most = most;
           fails = fails.now;
           calls = 0;
           faults = 0;
         }) }
     {
-        let Ok(bytes) = bytes.to_vec(alloc) else {
-            return Err(NoMemory);
-        };
-        let Ok(fails) = fails.to_vec(alloc) else {
-            return Err(NoMemory);
-        };
+        let bytes = bytes.to_vec(alloc)?;
+        let fails = fails.to_vec(alloc)?;
         Ok(MemSource {
             bytes,
             at: 0,
@@ -81,18 +77,18 @@ impl MemSource {
 }
 
 impl Source for MemSource {
-    ghost left = { λ s. Some s.left };
+    ghost unread = { λ s. Some s.unread };
 
     ghost faults = { λ s. s.faults };
 
     /// Fails exactly where the number of the call is one of those that fail, and counts the failure.
     fn read(&mut self, buf: &mut [u8]) -> Result<usize, Failed>
         ensures bound { ReadsAtMost result buf.new }
-        ensures bytes { ReadConsumes (Some self.old.left) (Some self.new.left) result buf.new }
+        ensures bytes { ReadConsumes (Some self.old.unread) (Some self.new.unread) result buf.new }
         ensures cause { HasCause self.old.faults self.new.faults result }
 
         ensures fails { IsErr result ↔ Contains self.old.fails (risen self.old.calls) }
-        ensures moves { IfOk result (λ n. n ≡ min (length buf.new) (min self.old.most (length self.old.left))) }
+        ensures moves { IfOk result (λ n. n ≡ min (length buf.new) (min self.old.most (length self.old.unread))) }
         ensures ok { IfOk result (λ n. self.new ≡ taken self.old n) }
         ensures err { OnErr result (self.new ≡ read_failed self.old) }
     {

@@ -1,6 +1,6 @@
 //! Sources, and reading one to its end.
-ghost use Rattle.std.specs.Prelude.{◌≡◌, ℕ, List, Option, ◌+◌, ◌<◌, ◌≤◌, ◌↔◌, ◌++◌, length, max, vec_capacity, IfOk, OnOk, OnErr, IfSome, IsErrOf};
-ghost use Rattle.std.specs.Io.KnownBytes.{ReadConsumes, IsAtEnd};
+ghost use Rattle.std.specs.Prelude.{◌≡◌, ℕ, List, Option, ◌+◌, ◌<◌, ◌≤◌, ◌↔◌, ◌++◌, length, max, vec_capacity, IfOk, OnOk, OnErr, IfSome, IsErrOf, MatchResult};
+ghost use Rattle.std.specs.Io.KnownBytes.{ReadConsumes, IsAtEnd, Consumes};
 ghost use Rattle.std.specs.Io.{ReadsAtMost};
 ghost use Rattle.surf_outside.specs.Causes.{HasCause, Rose};
 ghost use Rattle.surf_outside.specs.Known.{ConsumesSome};
@@ -14,7 +14,7 @@ const PIECE: usize = 65_536;
 /// Where bytes come from.
 pub trait Source {
     /// The bytes that are left, where it tells them.
-    ghost left: { Self → Option (List ℕ) };
+    ghost unread: { Self → Option (List ℕ) };
 
     /// How many faults it has had; a count that never falls.
     ghost faults: { Self → ℕ };
@@ -23,7 +23,7 @@ pub trait Source {
     /// a buffer that has room, means that nothing is left. After a fault the bytes left are unchanged.
     fn read(&mut self, buf: &mut [u8]) -> Result<usize, Failed>
         ensures bound { ReadsAtMost result buf.new }
-        ensures bytes { ReadConsumes (left self.old) (left self.new) result buf.new }
+        ensures bytes { ReadConsumes (unread self.old) (unread self.new) result buf.new }
         ensures cause { HasCause (faults self.old) (faults self.new) result };
 }
 
@@ -42,16 +42,20 @@ pub enum SlurpError {
 ///
 /// The list doubles its room as it grows, but takes room for no more than `most` bytes.
 pub fn slurp<S: Source>(alloc: Global, source: &mut S, most: usize) -> Result<Vec<u8>, SlurpError>
-    ensures ok { IfOk result (λ all. IfSome (S.left source.old) (λ bytes. all.items ≡ bytes)) }
-    ensures end { OnOk result (IsAtEnd (S.left source.new)) }
+    ensures ok { IfOk result (λ all. IfSome (S.unread source.old) (λ bytes. all.items ≡ bytes)) }
+    ensures end { OnOk result (IsAtEnd (S.unread source.new)) }
     ensures within { IfOk result (λ all. length all.items ≤ most) }
-    ensures some { ConsumesSome (S.left source.old) (S.left source.new) }
+    ensures some { ConsumesSome (S.unread source.old) (S.unread source.new) }
+
+    // Whether the source tells its bytes or not: it gave some, which are the answer, or more of them than `most`.
+    ensures took { (bytes : List ℕ) × Consumes (S.unread source.old) (S.unread source.new) bytes
+        × MatchResult result (λ all. all.items ≡ bytes) (λ e. e ≡ SlurpError.TooLong → most < length bytes) }
 
     ensures later { S.faults source.old ≤ S.faults source.new }
     ensures read { IsErrOf result SlurpError.Read → Rose (S.faults source.old) (S.faults source.new) }
 
     // Where the bytes are told: exactly where more than `most` of them were taken.
-    ensures too_long { IfSome (S.left source.old) (λ bytes. IfSome (S.left source.new) (λ rest.
+    ensures too_long { IfSome (S.unread source.old) (λ bytes. IfSome (S.unread source.new) (λ rest.
         IsErrOf result SlurpError.TooLong ↔ (most + length rest < length bytes))) }
 {
     let mut all: Vec<u8> = Vec::new(alloc);

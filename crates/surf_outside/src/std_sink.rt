@@ -26,7 +26,7 @@ impl<T: Write> StdSink<T> {
 }
 
 impl<T: Write> Sink for StdSink<T> {
-    ghost held = { λ s. T.contents (writer_of s) };
+    ghost written = { λ s. T.contents (writer_of s) };
 
     ghost faults = { λ s. writer_faults s };
 

@@ -26,7 +26,7 @@ impl<T: Read> StdSource<T> {
 }
 
 impl<T: Read> Source for StdSource<T> {
-    ghost left = { λ s. T.remaining (reader_of s) };
+    ghost unread = { λ s. T.remaining (reader_of s) };
 
     ghost faults = { λ s. reader_faults s };
 

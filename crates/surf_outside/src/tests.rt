@@ -1,4 +1,5 @@
 use super::*;
+use std::io::{self, ErrorKind, Read, Write};
 use std::test::Fail;
 
 /// Reads once and gives what came.
@@ -81,11 +82,85 @@ fn a_reader_of_std_is_a_source(rt: HostRuntime) -> Result<(), Fail> {
 
 #[test]
 fn a_writer_of_std_is_a_sink(rt: HostRuntime) -> Result<(), Fail> {
-    let mut held = Vec::new(rt.alloc());
-    let mut sink = StdSink::new(&mut held);
+    let mut written = Vec::new(rt.alloc());
+    let mut sink = StdSink::new(&mut written);
     put_all(&mut sink, b"abc")?;
     drop(sink);
-    assert_eq!(rt; held.as_slice(), b"abc".as_slice());
+    assert_eq!(rt; written.as_slice(), b"abc".as_slice());
+    Ok(())
+}
+
+/// A reader and writer that fails at its first call, and from then on hands on what `inner` does.
+#[derive(Drop)]
+struct FailsOnce<T> {
+    inner: T,
+    has_failed: bool,
+}
+
+impl<T> FailsOnce<T> {
+    fn new(inner: T) -> FailsOnce<T> {
+        FailsOnce {
+            inner,
+            has_failed: false,
+        }
+    }
+}
+
+impl<T: Read> Read for FailsOnce<T> {
+    fn read(&mut self, buf: &mut [u8]) -> io::Result<usize> {
+        if self.has_failed {
+            return self.inner.read(buf);
+        }
+        self.has_failed = true;
+        Err(io::Error::from(ErrorKind::Other))
+    }
+}
+
+impl<T: Write> Write for FailsOnce<T> {
+    fn write(&mut self, bytes: &[u8]) -> io::Result<usize> {
+        if self.has_failed {
+            return self.inner.write(bytes);
+        }
+        self.has_failed = true;
+        Err(io::Error::from(ErrorKind::Other))
+    }
+
+    fn flush(&mut self) -> io::Result<()> {
+        self.inner.flush()
+    }
+}
+
+#[test]
+fn an_error_of_a_reader_is_one_fault_and_is_not_tried_again(rt: HostRuntime) -> Result<(), Fail> {
+    let mut source = StdSource::new(FailsOnce::new(b"abc".as_slice()));
+    let mut buf = [0; 6];
+    assert_eq!(rt; source.read(&mut buf), Err(Failed));
+    assert_eq!(rt; read_once(&mut source, &mut buf)?, b"abc".as_slice());
+    Ok(())
+}
+
+#[test]
+fn an_error_of_a_writer_is_one_fault_and_is_not_tried_again(rt: HostRuntime) -> Result<(), Fail> {
+    let mut written = Vec::new(rt.alloc());
+    let mut sink = StdSink::new(FailsOnce::new(&mut written));
+    assert_eq!(rt; sink.write(b"abc"), Err(Failed));
+    assert_eq!(rt; sink.write(b"defg")?, 4);
+    drop(sink);
+    assert_eq!(rt; written.as_slice(), b"defg".as_slice());
+    Ok(())
+}
+
+#[test]
+fn a_long_piece_goes_through_at_once(rt: HostRuntime) -> Result<(), Fail> {
+    let piece = vec![in rt.alloc(); 7u8; 70_000]?;
+    let mut source = StdSource::new(piece.as_slice());
+    let mut bytes = vec![in rt.alloc(); 0u8; 70_000]?;
+    assert_eq!(rt; source.read(bytes.as_mut_slice())?, 70_000);
+    let mut written = Vec::new(rt.alloc());
+    let mut sink = StdSink::new(&mut written);
+    assert_eq!(rt; sink.write(bytes.as_slice())?, 70_000);
+    drop(sink);
+    assert_eq!(rt; written.as_slice(), piece.as_slice());
     Ok(())
 }
 

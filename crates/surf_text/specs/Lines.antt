@@ -10,8 +10,8 @@ abbrev pub lines_of : List ℕ → List (List ℕ)
 lines_of [] = []
 lines_of (c ∷ cs) = if is_feed c then [] ∷ lines_of cs else onto_first c (lines_of cs)
 
--- where a reader of lines stands: the number of the next line, and the lines that are left
-pub record LinesLeft : Type 0 where
+-- the lines that were not read yet, and the number of the first of them
+pub record RemainingLines : Type 0 where
   pub number : ℕ
   pub lines : List (List ℕ)
 
@@ -24,15 +24,15 @@ abbrev pub trim_front : List ℕ → List ℕ
 trim_front [] = []
 trim_front (c ∷ cs) = if is_blank c then trim_front cs else c ∷ cs
 
--- a byte before what is left of a text; a blank with nothing after it goes
-abbrev pub before_kept : ℕ → List ℕ → List ℕ
-before_kept c [] = if is_blank c then [] else c ∷ []
-before_kept c (d ∷ ds) = c ∷ d ∷ ds
+-- a byte put before a text whose blanks at the back are gone; a blank with nothing after it goes too
+abbrev pub onto_trimmed : ℕ → List ℕ → List ℕ
+onto_trimmed c [] = if is_blank c then [] else c ∷ []
+onto_trimmed c (d ∷ ds) = c ∷ d ∷ ds
 
 -- without the blanks at the back
 abbrev pub trim_back : List ℕ → List ℕ
 trim_back [] = []
-trim_back (c ∷ cs) = before_kept c (trim_back cs)
+trim_back (c ∷ cs) = onto_trimmed c (trim_back cs)
 
 -- without the blanks at both ends
 abbrev pub trimmed : List ℕ → List ℕ

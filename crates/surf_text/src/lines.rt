@@ -17,8 +17,8 @@ pub struct Line<'a> {
     pub bytes: &'a [u8],
 }
 
-/// A reader of the lines of a text. It stands before a line: its value is the number of that line and the lines
-/// that are left.
+/// A reader of the lines of a text. Its value is the lines that were not read yet, and the number of the first of
+/// them.
 #[derive(Drop)]
 pub struct Cursor<'a> {
     number: u64,
@@ -27,9 +27,9 @@ pub struct Cursor<'a> {
 
 impl<'a> Model for Cursor<'a> {
     ghost use Rattle.std.specs.Prelude.{◌+◌, ◌<◌, ◌^◌, length};
-    ghost use Rattle.surf_text.specs.Lines.{LinesLeft, lines_of};
+    ghost use Rattle.surf_text.specs.Lines.{RemainingLines, lines_of};
 
-    ghost Value = { LinesLeft };
+    ghost Value = { RemainingLines };
 
     ghost view = { λ c. record { number = c.number; lines = lines_of c.rest.now } };
 
@@ -59,7 +59,7 @@ impl<'a> Cursor<'a> {
         }
     }
 
-    /// The next line; `None` exactly where no line is left.
+    /// The next line; `None` exactly where every line was read.
     pub fn next_line(&mut self) -> Option<Line<'a>>
         ensures none { IsNone result ↔ (self.old.lines ≡ []) }
         ensures unchanged { IfNone result (self.new ≡ self.old) }

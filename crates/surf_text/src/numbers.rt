@@ -1,13 +1,14 @@
 //! Whole numbers and decimals in a text.
 
-ghost use Rattle.std.specs.Prelude.{◌≡◌, ◌<◌, ◌≤◌, ◌^◌, ◌+◌, ◌++◌, ◌+ℤ◌, ◌-ℤ◌, ◌≤ℤ◌, ◌↔◌, length, IfSome, pos, Some, None, if◌then◌else◌};
+ghost use Rattle.std.specs.Prelude.{◌≡◌, ◌<◌, ◌≤◌, ◌^◌, ◌+◌, ◌++◌, ◌+ℤ◌, ◌-ℤ◌, ◌≤ℤ◌, ◌↔◌, length, position, IfSome, pos, Some, None, if◌then◌else◌};
 ghost use Rattle.std.specs.Option.{option_map};
 ghost use Rattle.std.specs.Str.Parse.{digits_value, digits_value_after};
+ghost use Rattle.surf_text.specs.Cuts.{cut_where};
 ghost use Rattle.surf_text.specs.Numbers.{all_digits, u64_of};
-ghost use Rattle.surf_text.specs.Decimals.{size_of, exponent_of, digits_of, scaled_of, decimal_of, IsSmall};
+ghost use Rattle.surf_text.specs.Decimals.{size_of, exponent_of, digits_of, scaled_of, is_mark, decimal_of, IsSmall};
 ghost use Rattle.surf_text.specs.Grammar.{IsDecimal};
 
-use crate::cuts::cut;
+use crate::cuts::{around, cut};
 
 /// The value `digits * 10 ^ exp`.
 #[derive(Clone, Copy, Debug, PartialEq, Eq)]
@@ -124,6 +125,22 @@ fn read_parts(text: &[u8], exponent: i32) -> Option<Dec>
     }
 }
 
+fn first_mark(text: &[u8]) -> Option<usize>
+    ensures { result ≡ position is_mark text.now }
+{
+    text.iter().position(|c| *c == b'e' || *c == b'E')
+}
+
+/// What stands before the first mark of an exponent, and what stands after it; `None` where there is no mark.
+fn cut_mark(text: &[u8]) -> Option<(&[u8], &[u8])>
+    ensures { option_map (λ p. (p.0.now, p.1.now)) result ≡ cut_where is_mark text.now }
+{
+    match first_mark(text) {
+        Some(index) => Some(around(text, index)),
+        None => None,
+    }
+}
+
 /// The decimal that a text spells: at most 18 digits, with a point or without, then an exponent from -9 to 9 or
 /// none. `None` exactly where the text is no decimal.
 pub fn read_decimal(text: &[u8]) -> Option<Dec>
@@ -131,11 +148,7 @@ pub fn read_decimal(text: &[u8]) -> Option<Dec>
     ensures value { result ≡ decimal_of text.now }
     ensures range { IfSome result IsSmall }
 {
-    let parts = match cut(text, b'e') {
-        Some(parts) => Some(parts),
-        None => cut(text, b'E'),
-    };
-    match parts {
+    match cut_mark(text) {
         Some((front, back)) => read_parts(front, read_exponent(back)?),
         None => read_parts(text, 0),
     }

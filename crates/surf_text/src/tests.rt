@@ -125,11 +125,21 @@ fn texts_are_cut(rt: HostRuntime) {
 #[test]
 fn words_stand_between_blanks(rt: HostRuntime) -> Result<(), Fail> {
     assert_eq!(rt;
-        words(rt.alloc(), " A\t\tBB é\r")?.as_slice(),
+        word_list(rt.alloc(), " A\t\tBB é\r")?.as_slice(),
         ["A", "BB", "é"].as_slice()
     );
-    assert!(rt; words(rt.alloc(), " \t ")?.is_empty());
+    assert!(rt; word_list(rt.alloc(), " \t ")?.is_empty());
     Ok(())
+}
+
+#[test]
+fn words_are_taken_one_after_the_other(rt: HostRuntime) {
+    let mut words = Words::new(b" \xff\t\tb c".as_slice());
+    assert_eq!(rt; words.next_word(), Some(b"\xff".as_slice()));
+    assert_eq!(rt; words.rest(), b"\tb c".as_slice());
+    assert_eq!(rt; words.next_word(), Some(b"b".as_slice()));
+    assert_eq!(rt; words.next_word(), Some(b"c".as_slice()));
+    assert_eq!(rt; words.next_word(), None);
 }
 
 #[test]

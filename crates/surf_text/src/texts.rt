@@ -1,13 +1,12 @@
 //! Cuts, lines, blanks and words of texts in UTF-8, whose parts are such texts again.
 
-ghost use Rattle.std.specs.Prelude.{◌≡◌, ◌<◌, ◌∷◌, ◌+◌, length, take, drop, slice_index, position, IfSome, IfOk, map};
+ghost use Rattle.std.specs.Prelude.{◌≡◌, ◌<◌, ◌∷◌, ◌+◌, length, take, drop, slice_index, IfSome};
 ghost use Rattle.std.specs.Option.{option_map};
 ghost use Rattle.surf_text.specs.Lines.{lines_of, is_blank, trimmed};
-ghost use Rattle.surf_text.specs.Cuts.{cut_at, cut_where, words_of};
+ghost use Rattle.surf_text.specs.Cuts.{cut_at, cut_where};
 
-use crate::cuts::first_place;
+use crate::cuts::{first_blank, first_place};
 use crate::lines::is_blank;
-use std::alloc::{AllocError, Global};
 
 /// What stands before a byte of ASCII, and what stands after it.
 fn around(text: &str, index: usize) -> (&str, &str)
@@ -28,12 +27,6 @@ pub fn cut_text(text: &str, byte: u8) -> Option<(&str, &str)>
         Some(index) => Some(around(text, index)),
         None => None,
     }
-}
-
-fn first_blank(text: &[u8]) -> Option<usize>
-    ensures { result ≡ position is_blank text.now }
-{
-    text.iter().position(|c| is_blank(*c))
 }
 
 /// What stands before the first blank, and what stands after it; `None` where there is no blank. A blank is a
@@ -76,22 +69,4 @@ pub fn trim_text(text: &str) -> &str
         rest = around(rest, rest.len() - 1).0;
     }
     rest
-}
-
-/// The words between blanks, in their order. The only error is want of memory.
-pub fn words(alloc: Global, text: &str) -> Result<Vec<&str>, AllocError>
-    ensures { IfOk result (λ found. map (λ w. w.now) found.items ≡ words_of text.now) }
-{
-    let mut found = Vec::new(alloc);
-    let mut rest = text;
-    while let Some((word, after)) = cut_blank(rest) {
-        if !word.is_empty() {
-            found.push(word)?;
-        }
-        rest = after;
-    }
-    if !rest.is_empty() {
-        found.push(rest)?;
-    }
-    Ok(found)
 }

@@ -1,4 +1,2 @@
-pub mod Sequences
-pub mod Parts
-pub mod Spaced
-pub mod RowParts
+mod Spaced
+mod RowParts

@@ -4,7 +4,8 @@ use Rattle.std.specs.List.{range_with_len}
 use Rattle.std.proofs.lemmas.List.Folds.{flat_map-map}
 use Rattle.surf_kinds.specs.declared.site.SpeciesId.{SpeciesId}
 use Rattle.surface_rows.specs.Rows.{row_at, row_line, rows_text}
-use Rattle.surface_rows.proofs.Parts.{parts, parts-more, parts-within}
+use Rattle.surf_outside.specs.Parts.{parts}
+use Rattle.surf_outside.proofs.LawLemmas.{parts-more, parts-within}
 
 -- the line of a row, with its line feed
 abbrev pub line_part : List (List ℕ) → ℕ → List SpeciesId → ℕ → List ℕ

@@ -1,10 +1,8 @@
 -- Names with one space between, one name after the other.
-use Rattle.std.proofs.Common.{◌≡◌, ℕ, suc, ◌+◌, ◌<◌, ◌≤◌, List, [], ◌∷◌, ◌++◌, length, map, take, drop, get_or, Some, sym, ap, ◌∙◌, append_assoc, append-nil}
-use Rattle.std.specs.Prelude.{slice_get}
+use Rattle.std.proofs.Common.{◌≡◌, ℕ, suc, ◌+◌, ◌<◌, ◌≤◌, List, [], ◌∷◌, ◌++◌, length, map, take, drop, get_or, sym, ap, ◌∙◌, append_assoc, append-nil}
 use Rattle.std.specs.List.{flat_map}
 use Rattle.std.proofs.lemmas.List.{take_more, take_all, take-append-drop, map-append}
 use Rattle.std.proofs.lemmas.List.Concat.{flat_map-append}
-use Rattle.std.proofs.lemmas.Option.{get_or_from_slice_get}
 use Rattle.surf_kinds.specs.declared.site.SpeciesId.{SpeciesId}
 use Rattle.surface_rows.specs.Rows.{name_of, spaced}
 
@@ -48,7 +46,3 @@ names-one names first others = sym (append-nil (name_of names first))
 
 pub names-all : (names : List (List ℕ)) (ids : List SpeciesId) (n : ℕ) → length ids ≤ n → first_names names ids n ≡ spaced (map (name_of names) ids)
 names-all names ids n h = ap (λ t. spaced (map (name_of names) t)) (take_all n ids h)
-
--- the text of a name that is kept
-pub name_is : (names : List (List ℕ)) (id : SpeciesId) (text name : List ℕ) → text ≡ name → slice_get names id.0 ≡ Some name → text ≡ name_of names id
-name_is names id text name same at = same ∙ sym (get_or_from_slice_get names id.0 name [] at)

@@ -4,24 +4,24 @@ ghost use Rattle.std.specs.Prelude.{◌≡◌, ◌*◌, ◌^◌, ◌<◌, ◌≤
 ghost use Rattle.std.specs.Io.KnownBytes.{Appends};
 ghost use Rattle.surf_outside.specs.Causes.{HasCause};
 ghost use Rattle.surf_outside.specs.Known.{AppendsPrefix};
-ghost use Rattle.surface_rows.specs.Puts.{Puts};
+ghost use Rattle.surf_outside.specs.Puts.{Puts};
 ghost use Rattle.surface_rows.specs.Rows.{name_of, spaced, rows_text};
 
 use species::Names;
 use surf_kinds::SpeciesId;
-use surf_outside::{Failed, Sink, put_all};
+use surf_outside::{Failed, Sink, put};
 
-/// Writes all of the bytes, as `put_all` does. What `put_all` says by three clauses is one here, so that calls one
-/// after the other are easily joined.
-pub fn put<O: Sink>(out: &mut O, bytes: &[u8]) -> Result<(), Failed>
-    ensures { Puts (O.held out.old) (O.held out.new) (O.faults out.old) (O.faults out.new) bytes.now result }
+/// The bytes of a name.
+pub fn name_bytes(names: &Names, id: SpeciesId) -> &[u8]
+    requires { id.0 < length names.now }
+    ensures { result.now ≡ name_of names.now id }
 {
-    put_all(out, bytes)
+    names.name(id).as_bytes()
 }
 
 /// Writes a space and a name.
 fn write_next<O: Sink>(out: &mut O, name: &[u8]) -> Result<(), Failed>
-    ensures { Puts (O.held out.old) (O.held out.new) (O.faults out.old) (O.faults out.new) (32 ∷ name.now) result }
+    ensures { Puts (O.written out.old) (O.written out.new) (O.faults out.old) (O.faults out.new) (32 ∷ name.now) result }
 {
     put(out, b" ")?;
     put(out, name)
@@ -30,14 +30,14 @@ fn write_next<O: Sink>(out: &mut O, name: &[u8]) -> Result<(), Failed>
 /// Writes names with one space between.
 fn write_names<O: Sink>(out: &mut O, names: &Names, ids: &[SpeciesId]) -> Result<(), Failed>
     requires { All (λ s. s.0 < length names.now) ids.now }
-    ensures { Puts (O.held out.old) (O.held out.new) (O.faults out.old) (O.faults out.new) (spaced (map (name_of names.now) ids.now)) result }
+    ensures { Puts (O.written out.old) (O.written out.new) (O.faults out.old) (O.faults out.new) (spaced (map (name_of names.now) ids.now)) result }
 {
     let Some((first, others)) = ids.split_first() else {
         return Ok(());
     };
-    put(out, names.name(*first).as_bytes())?;
+    put(out, name_bytes(names, *first))?;
     for id in others {
-        write_next(out, names.name(*id).as_bytes())?;
+        write_next(out, name_bytes(names, *id))?;
     }
     Ok(())
 }
@@ -45,7 +45,7 @@ fn write_names<O: Sink>(out: &mut O, names: &Names, ids: &[SpeciesId]) -> Result
 /// Writes the line of a row.
 fn write_row<O: Sink>(out: &mut O, names: &Names, row: &[SpeciesId]) -> Result<(), Failed>
     requires { All (λ s. s.0 < length names.now) row.now }
-    ensures { Puts (O.held out.old) (O.held out.new) (O.faults out.old) (O.faults out.new) (spaced (map (name_of names.now) row.now) ++ 10 ∷ []) result }
+    ensures { Puts (O.written out.old) (O.written out.new) (O.faults out.old) (O.faults out.new) (spaced (map (name_of names.now) row.now) ++ 10 ∷ []) result }
 {
     write_names(out, names, row)?;
     put(out, b"\n")
@@ -63,8 +63,8 @@ pub fn write_rows<O: Sink>(
     requires sites { length cells.now ≡ rows * cols }
     requires few { length cells.now ≤ 2 ^ 20 }
     requires known { All (λ s. s.0 < length names.now) cells.now }
-    ensures ok { OnOk result (Appends (O.held out.old) (O.held out.new) (rows_text names.now rows cols cells.now)) }
-    ensures err { OnErr result (AppendsPrefix (O.held out.old) (O.held out.new) (rows_text names.now rows cols cells.now)) }
+    ensures ok { OnOk result (Appends (O.written out.old) (O.written out.new) (rows_text names.now rows cols cells.now)) }
+    ensures err { OnErr result (AppendsPrefix (O.written out.old) (O.written out.new) (rows_text names.now rows cols cells.now)) }
     ensures cause { HasCause (O.faults out.old) (O.faults out.new) result }
 {
     let cols = cols as usize;

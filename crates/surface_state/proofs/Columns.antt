@@ -8,11 +8,11 @@ use Rattle.surf_kinds.specs.declared.site.SpeciesId.{SpeciesId}
 use Rattle.lattice.specs.Shape.{Shape}
 use Rattle.lattice.specs.Surface.{first_surface, fresh}
 use Rattle.surface_state.specs.declared.before.Mark.{Mark}
-use Rattle.surface_state.specs.Standing.{Standing}
+use Rattle.surface_state.specs.SurfaceView.{SurfaceView}
 use Rattle.surface_state.specs.Columns.{state_of, states, one_at, AreCounts, AreColumns}
 
-abbrev pub the_standing : Shape → ℕ → List SiteState → Standing
-the_standing l kinds sites = record { lattice = l; kinds = kinds; sites = sites }
+abbrev pub the_view : Shape → ℕ → List SiteState → SurfaceView
+the_view l species_count sites = record { lattice = l; species_count = species_count; sites = sites }
 
 pub states-length : (species : List SpeciesId) (marks : List Mark) → length marks ≡ length species → length (states species marks) ≡ length species
 states-length [] marks h = refl
@@ -64,16 +64,5 @@ states-fresh [] n h = refl
 states-fresh (c ∷ cells) zero h = absurd (omega (arith, h))
 states-fresh (c ∷ cells) (suc n) h = ap (λ l. fresh c ∷ l) (states-fresh cells n (omega (arith, h)))
 
-pub same_standing : (l : Shape) (k m : ℕ) (xs ys : List SiteState) → k ≡ m → xs ≡ ys → the_standing l k xs ≡ the_standing l m ys
-same_standing l k m xs ys p q = ap (λ n. the_standing l n xs) p ∙ ap (λ zs. the_standing l m zs) q
-
--- counts that follow a change of a site are right again
-pub counted-set : (species : List SpeciesId) (i : ℕ) (old new d : SpeciesId) (counts moved : List ℕ)
-    → i < length species → get_or species i d ≡ old → AreCounts counts species → length moved ≡ length counts
-    → ((k e : ℕ) → k < length counts → get_or moved k e + one_at old k ≡ get_or counts k e + one_at new k)
-    → AreCounts moved (set species i new)
-counted-set species i old new d counts moved h is right long change k e below =
-    let sums : count_by (λ (s : SpeciesId). s.0 == k) (set species i new) + one_at (get_or species i d) k ≡ count_by (λ (s : SpeciesId). s.0 == k) species + one_at new k =
-    sum_by-set (λ (s : SpeciesId). one_at s k) species i new d h in
-    let within : k < length counts = omega (arith, below, long) in
-    omega (arith, sums, ap (λ s. one_at s k) is, right k e within, change k e within)
+pub same_view : (l : Shape) (k m : ℕ) (xs ys : List SiteState) → k ≡ m → xs ≡ ys → the_view l k xs ≡ the_view l m ys
+same_view l k m xs ys p q = ap (λ n. the_view l n xs) p ∙ ap (λ zs. the_view l m zs) q

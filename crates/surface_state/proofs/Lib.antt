@@ -1,4 +1,4 @@
-pub mod Columns
-pub mod Undoing
-pub mod Products
-pub mod Kept
+mod Columns
+mod Undoing
+mod Products
+pub mod LawLemmas

@@ -1,18 +1,17 @@
 -- What stood before an event may be put back after it, and is then what stands there.
-use Rattle.std.proofs.Common.{◌≡◌, ◌≢◌, ℕ, ◌<◌, List, Option, Some, None, true, false, refl, sym, ap, ◌∙◌, subst, arith, set}
-use Rattle.std.specs.Prelude.{slice_get, All, IfSome, IsSome, is_some, unwrap_or}
-use Rattle.std.proofs.lemmas.Option.{none-some, slice_get_within, get_or_from_slice_get}
+use Rattle.std.proofs.Common.{◌≡◌, ◌≢◌, ℕ, List, Option, Some, None, true, false, refl, sym, ap, ◌∙◌, subst, arith, set}
+use Rattle.std.specs.Prelude.{slice_get, IfSome, IsSome, is_some, unwrap_or}
+use Rattle.std.proofs.lemmas.Option.{get_or_from_slice_get}
 use Rattle.std.proofs.lemmas.List.{set-set, set-get_or, set_comm}
 use Rattle.surf_kinds.specs.declared.site.SiteId.{SiteId}
 use Rattle.surf_kinds.specs.declared.site.SiteState.{SiteState}
 use Rattle.surf_kinds.specs.declared.site.SpeciesId.{SpeciesId}
 use Rattle.lattice.specs.Places.{IsPlace}
 use Rattle.lattice.specs.Surface.{rewrite, rewrite_second, rewritten}
-use Rattle.lattice.proofs.Laws.{sites_differ}
-use Rattle.lattice.proofs.Writes.{rewrite_other, rewrite_same}
+use Rattle.lattice.proofs.LawLemmas.{sites_differ, rewrite_other, rewrite_same}
 use Rattle.surface_state.specs.declared.before.Before.{Before}
-use Rattle.surface_state.specs.Standing.{Standing}
-use Rattle.surface_state.specs.Changes.{applied, undone, rewrite_to, put_back, put_second, state_at, IsBefore, IsLeft, IsLeftAt, IsBelow, IsSecondOf}
+use Rattle.surface_state.specs.SurfaceView.{SurfaceView}
+use Rattle.surface_state.specs.Changes.{applied, undone, rewrite_to, put_back, put_second, state_at, IsBefore, IsLeft, IsLeftAt, IsSecondOf}
 
 -- the old state in its place again
 put_again : (sites : List SiteState) (i : ℕ) (new old : SiteState) → slice_get sites i ≡ Some old → set (set sites i new) i old ≡ sites
@@ -44,7 +43,7 @@ back_second p q time i None sites old other differ at at_second both = back_one 
 back_second p q time i (Some n) sites old None differ at at_second both = absurd (differing both)
 back_second p q time i (Some n) sites old (Some other) differ at at_second both = back_two p q time i n.0 sites old other (differ n refl) at at_second
 
-undone_sites : (s : Standing) (b : Before) (to : SpeciesId × Option SpeciesId) → IsBefore s b → (undone (applied s b.event to) b).sites ≡ s.sites
+undone_sites : (s : SurfaceView) (b : Before) (to : SpeciesId × Option SpeciesId) → IsBefore s b → (undone (applied s b.event to) b).sites ≡ s.sites
 undone_sites s b to before =
     let time = b.event.time in
     ap (λ o. put_back b o (rewrite_to to time o s.sites)) before.is
@@ -52,7 +51,7 @@ undone_sites s b to before =
     (λ n second. sites_differ s.lattice b.event.place.0 before.place n before.is second) before.first before.second before.both
 
 -- undoing gives the old surface back
-pub undone_applied : (s : Standing) (b : Before) (to : SpeciesId × Option SpeciesId) → IsBefore s b → undone (applied s b.event to) b ≡ s
+pub undone_applied : (s : SurfaceView) (b : Before) (to : SpeciesId × Option SpeciesId) → IsBefore s b → undone (applied s b.event to) b ≡ s
 undone_applied s b to before = ap (λ sites. record s { sites = sites }) (undone_sites s b to before)
 
 left_first : (p q : SpeciesId → SpeciesId) (time i : ℕ) (second : Option SiteId) (sites : List SiteState) (old : SiteState)
@@ -74,7 +73,7 @@ left_second p q time i (Some n) sites (Some old) differ at =
     subst (IsLeftAt time old) (sym (rewrite_same q time n.0 once old still)) (refl, refl)
 
 -- and it may be done
-pub left_applied : (s : Standing) (b : Before) (to : SpeciesId × Option SpeciesId) → IsBefore s b → IsLeft (applied s b.event to) b
+pub left_applied : (s : SurfaceView) (b : Before) (to : SpeciesId × Option SpeciesId) → IsBefore s b → IsLeft (applied s b.event to) b
 left_applied s b to before =
     let time = b.event.time in
     let differ : (n : SiteId) → before.place.second ≡ Some n → n.0 ≢ before.place.first.0 = λ n second. sites_differ s.lattice b.event.place.0 before.place n before.is second in
@@ -84,21 +83,9 @@ left_applied s b to before =
     (sym before.is)
     (subst (IsLeftAt time b.first) (sym first) (refl, refl), second)
 
--- what stood there has species of the surface
-pub below_before : (s : Standing) (b : Before) → IsBefore s b → All (λ x. x.species.0 < s.kinds) s.sites → IsBelow s.kinds b
-below_before s b before all = (below_at before.place.first.0 b.first before.first, below_second before.place.second b.second before.second)
-  where
-    below_at : (i : ℕ) (x : SiteState) → slice_get s.sites i ≡ Some x → x.species.0 < s.kinds
-    below_at i x at = subst (λ (y : SiteState). y.species.0 < s.kinds) (get_or_from_slice_get s.sites i x x at) (all i x (slice_get_within s.sites i x at))
-
-    below_second : (n : Option SiteId) (o : Option SiteState) → state_at s.sites n ≡ o → IfSome o (λ x. x.species.0 < s.kinds)
-    below_second n None at = tt
-    below_second None (Some x) at = absurd (none-some x at)
-    below_second (Some n) (Some x) at = below_at n.0 x at
-
--- and the place, and its number of sites
-pub place_before : (s : Standing) (b : Before) → IsBefore s b → IsPlace s.lattice b.event.place.0
+-- what stood before an event is that of a place of the lattice, and of as many sites
+pub place_before : (s : SurfaceView) (b : Before) → IsBefore s b → IsPlace s.lattice b.event.place.0
 place_before s b before = subst (λ o. IsSome o) (sym before.is) refl
 
-pub pair_before : (s : Standing) (b : Before) → IsBefore s b → IsSecondOf s.lattice b.event.place.0 b.second
+pub pair_before : (s : SurfaceView) (b : Before) → IsBefore s b → IsSecondOf s.lattice b.event.place.0 b.second
 pair_before s b before = subst (λ o. IfSome o (λ p. is_some b.second ≡ is_some p.second)) (sym before.is) before.both

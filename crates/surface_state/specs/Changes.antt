@@ -1,5 +1,6 @@
 -- How events change a surface, and how they are taken back.
-use Rattle.std.specs.Prelude.{◌≡◌, ℕ, ◌+◌, ◌/◌, ◌%◌, ◌<◌, List, Option, Some, None, is_some, unwrap_or, IfSome, slice_get, slice_set}
+use Rattle.std.specs.Prelude.{◌≡◌, ℕ, ◌+◌, ◌<◌, List, Option, Some, None, is_some, unwrap_or, IfSome, slice_get, slice_set}
+use Rattle.std.specs.Option.{option_map}
 use Rattle.surf_kinds.specs.declared.rule.Rule.{Rule}
 use Rattle.surf_kinds.specs.declared.site.SiteState.{SiteState}
 use Rattle.surf_kinds.specs.declared.site.SpeciesId.{SpeciesId}
@@ -8,9 +9,11 @@ use Rattle.surf_kinds.specs.declared.site.Sites.{Sites}
 use Rattle.surf_kinds.specs.declared.event.Event.{Event}
 use Rattle.lattice.specs.Shape.{Shape}
 use Rattle.lattice.specs.Places.{sites_of}
-use Rattle.lattice.specs.Surface.{rewrite, rewrite_second, first_product, second_product}
+use Rattle.surf_kinds.specs.Channels.{rule_of_channel, way_of_channel}
+use Rattle.lattice.specs.Channels.{products}
+use Rattle.lattice.specs.Surface.{rewrite, rewrite_second}
 use Rattle.surface_state.specs.declared.before.Before.{Before}
-use Rattle.surface_state.specs.Standing.{Standing}
+use Rattle.surface_state.specs.SurfaceView.{SurfaceView}
 
 -- each site of the place is rewritten, the first to the first species and the second to the second, or to its own
 -- where none is given; the others stay
@@ -21,7 +24,7 @@ rewrite_to to time (Some p) sites =
     (rewrite (λ _. to.0) time p.first.0 (slice_get sites p.first.0) sites)
 
 -- the surface with the sites of the event's place rewritten
-abbrev pub applied : Standing → Event → SpeciesId × Option SpeciesId → Standing
+abbrev pub applied : SurfaceView → Event → SpeciesId × Option SpeciesId → SurfaceView
 applied s e to = record s { sites = rewrite_to to e.time (sites_of s.lattice e.place.0) s.sites }
 
 -- the state put at the second site, where there is one
@@ -35,7 +38,7 @@ put_back b None sites = sites
 put_back b (Some p) sites = put_second p.second b.second (slice_set sites p.first.0 b.first)
 
 -- the surface with the sites of the event's place as they were before it
-abbrev pub undone : Standing → Before → Standing
+abbrev pub undone : SurfaceView → Before → SurfaceView
 undone s b = record s { sites = put_back b (sites_of s.lattice b.event.place.0) s.sites }
 
 -- what stands at a site, where there is one
@@ -44,7 +47,7 @@ state_at sites None = None
 state_at sites (Some n) = slice_get sites n.0
 
 -- this stands at the sites of the event's place
-pub record IsBefore (s : Standing) (b : Before) : Type 0 where
+pub record IsBefore (s : SurfaceView) (b : Before) : Type 0 where
   pub place : Sites
   pub is : sites_of s.lattice b.event.place.0 ≡ Some place
   pub first : slice_get s.sites place.first.0 ≡ Some b.first
@@ -56,7 +59,7 @@ abbrev pub IsLeftAt : ℕ → SiteState → Option SiteState → Type 0
 IsLeftAt time old now = IfSome now (λ s. (s.version ≡ old.version + 1) × (s.last ≡ time))
 
 -- what the event left stands at the sites of its place
-abbrev pub IsLeft : Standing → Before → Type 0
+abbrev pub IsLeft : SurfaceView → Before → Type 0
 IsLeft s b =
     IfSome (sites_of s.lattice b.event.place.0)
     (λ p. IsLeftAt b.event.time b.first (slice_get s.sites p.first.0)
@@ -66,14 +69,13 @@ IsLeft s b =
 abbrev pub IsSecondOf : {X : Type 0} → Shape → ℕ → Option X → Type 0
 IsSecondOf l place second = IfSome (sites_of l place) (λ p. is_some second ≡ is_some p.second)
 
--- these species have numbers below the number of kinds
+-- these species have numbers below the number of species
 abbrev pub AreBelow : ℕ → SpeciesId → Option SpeciesId → Type 0
-AreBelow kinds first second = (first.0 < kinds) × IfSome second (λ s. s.0 < kinds)
+AreBelow species_count first second = (first.0 < species_count) × IfSome second (λ s. s.0 < species_count)
 
 abbrev pub IsBelow : ℕ → Before → Type 0
-IsBelow kinds b = (b.first.species.0 < kinds) × IfSome b.second (λ s. s.species.0 < kinds)
+IsBelow species_count b = (b.first.species.0 < species_count) × IfSome b.second (λ s. s.species.0 < species_count)
 
--- the species that the event's channel gives the sites of its place
-pub record AreProducts (rules : List Rule) (e : Event) (to : SpeciesId × Option SpeciesId) : Type 0 where
-  pub first : (s : SpeciesId) → to.0 ≡ first_product (slice_get rules (e.channel / 2)) (e.channel % 2) s
-  pub second : (s : SpeciesId) → unwrap_or to.1 s ≡ second_product (slice_get rules (e.channel / 2)) (e.channel % 2) s
+-- the species that the event's channel gives the sites of its place: the products of its rule, in its way
+abbrev pub AreProducts : List Rule → Event → SpeciesId × Option SpeciesId → Type 0
+AreProducts rules e to = Some to ≡ option_map (products (way_of_channel e.channel)) (slice_get rules (rule_of_channel e.channel))

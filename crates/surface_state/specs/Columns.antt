@@ -27,6 +27,6 @@ pub record AreColumns (l : Shape) (species : List SpeciesId) (marks : List Mark)
   pub species_long : length species ≡ l.rows * l.cols
   pub marks_long : length marks ≡ l.rows * l.cols
   pub few_sites : l.rows * l.cols ≤ 2 ^ 20
-  pub few_kinds : length counts ≤ 4096
+  pub few_species : length counts ≤ 4096
   pub below : All (λ s. s.0 < length counts) species
   pub counted : AreCounts counts species

@@ -1,3 +1,3 @@
-pub mod Standing
+pub mod SurfaceView
 pub mod Columns
 pub mod Changes

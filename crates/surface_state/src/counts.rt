@@ -40,16 +40,14 @@ pub(crate) fn count_moved(counts: &mut [u32], from: SpeciesId, to: SpeciesId)
 pub(crate) fn counts_of(
     alloc: Global,
     cells: &[SpeciesId],
-    kinds: u32,
+    species_count: u32,
 ) -> Result<Vec<u32>, NoMemory>
     requires few { length cells.now ≤ 2 ^ 20 }
-    requires known { All (λ s. s.0 < kinds) cells.now }
-    ensures long { IfOk result (λ counts. length counts.items ≡ kinds) }
+    requires known { All (λ s. s.0 < species_count) cells.now }
+    ensures long { IfOk result (λ counts. length counts.items ≡ species_count) }
     ensures counts { IfOk result (λ counts. AreCounts counts.items cells.now) }
 {
-    let Ok(mut counts) = vec![in alloc; 0u32; kinds as usize] else {
-        return Err(NoMemory);
-    };
+    let mut counts = vec![in alloc; 0u32; species_count as usize]?;
     for cell in cells {
         count_one(&mut counts, *cell);
     }

@@ -12,7 +12,7 @@ use std::alloc::Global;
 use std::marker::Model;
 use surf_kinds::{Event, NoMemory, SiteId, SiteState, SpeciesId};
 
-/// A lattice with the state of each site. The species have the numbers below `kinds`, and the counts say how many
+/// A lattice with the state of each site. The species have the numbers below `species_count`, and the counts say how many
 /// sites have each. Only `new` and `copy` take memory.
 // The species stand in a column of their own: of a surface of a million sites it stays in cache, while version
 // and last are read only at the sites that an event may change.
@@ -26,12 +26,12 @@ pub struct Surface {
 
 impl Model for Surface {
     ghost use Rattle.std.specs.Prelude.{length};
-    ghost use Rattle.surface_state.specs.Standing.{Standing};
+    ghost use Rattle.surface_state.specs.SurfaceView.{SurfaceView};
     ghost use Rattle.surface_state.specs.Columns.{states, AreColumns};
 
-    ghost Value = { Standing };
+    ghost Value = { SurfaceView };
 
-    ghost view = { λ s. record { lattice = s.lattice; kinds = length s.counts.items; sites = states s.species.items s.marks.items } };
+    ghost view = { λ s. record { lattice = s.lattice; species_count = length s.counts.items; sites = states s.species.items s.marks.items } };
 
     ghost invariant = { λ s. AreColumns s.lattice s.species.items s.marks.items s.counts.items };
 }
@@ -42,28 +42,21 @@ impl Surface {
         alloc: Global,
         lattice: Lattice,
         cells: &[SpeciesId],
-        kinds: u32,
+        species_count: u32,
     ) -> Result<Surface, NoMemory>
         requires cells { length cells.now ≡ lattice.rows * lattice.cols }
-        requires species { All (λ s. s.0 < kinds) cells.now }
-        requires kinds { kinds ≤ 4096 }
-        ensures { IfOk result (λ s. s ≡ record { lattice = lattice; kinds = kinds; sites = first_surface cells.now }) }
+        requires species { All (λ s. s.0 < species_count) cells.now }
+        requires species_count { species_count ≤ 4096 }
+        ensures { IfOk result (λ s. s ≡ record { lattice = lattice; species_count = species_count; sites = first_surface cells.now }) }
     {
         let sites = lattice.site_count() as usize;
-        let counts = match counts_of(alloc, cells, kinds) {
-            Ok(counts) => counts,
-            Err(NoMemory) => return Err(NoMemory),
-        };
-        let Ok(species) = cells.to_vec(alloc) else {
-            return Err(NoMemory);
-        };
+        let counts = counts_of(alloc, cells, species_count)?;
+        let species = cells.to_vec(alloc)?;
         let fresh = Mark {
             version: 0,
             last: 0,
         };
-        let Ok(marks) = vec![in alloc; fresh; sites] else {
-            return Err(NoMemory);
-        };
+        let marks = vec![in alloc; fresh; sites]?;
         Ok(Surface {
             lattice,
             species,
@@ -76,20 +69,11 @@ impl Surface {
     pub fn copy(&self) -> Result<Surface, NoMemory>
         ensures { IfOk result (λ s. s ≡ self.now) }
     {
-        let Ok(species) = self.species.clone() else {
-            return Err(NoMemory);
-        };
-        let Ok(marks) = self.marks.clone() else {
-            return Err(NoMemory);
-        };
-        let Ok(counts) = self.counts.clone() else {
-            return Err(NoMemory);
-        };
         Ok(Surface {
             lattice: self.lattice,
-            species,
-            marks,
-            counts,
+            species: self.species.clone()?,
+            marks: self.marks.clone()?,
+            counts: self.counts.clone()?,
         })
     }
 
@@ -101,8 +85,8 @@ impl Surface {
     }
 
     /// The number of species, at most 4,096.
-    pub fn kinds(&self) -> u32
-        ensures kinds { result ≡ self.now.kinds }
+    pub fn species_count(&self) -> u32
+        ensures species_count { result ≡ self.now.species_count }
         ensures at_most { result ≤ 4096 }
         ensures below { All (λ s. s.species.0 < result) self.now.sites }
     {
@@ -113,7 +97,7 @@ impl Surface {
     pub fn cells(&self) -> &[SpeciesId]
         ensures cells { result.now ≡ map (λ s. s.species) self.now.sites }
         ensures sites { length result.now ≡ self.now.lattice.rows * self.now.lattice.cols }
-        ensures below { All (λ s. s.0 < self.now.kinds) result.now }
+        ensures below { All (λ s. s.0 < self.now.species_count) result.now }
     {
         &self.species
     }
@@ -122,7 +106,7 @@ impl Surface {
     pub fn state(&self, site: SiteId) -> SiteState
         requires { site.0 < self.now.lattice.rows * self.now.lattice.cols }
         ensures state { slice_get self.now.sites site.0 ≡ Some result }
-        ensures below { result.species.0 < self.now.kinds }
+        ensures below { result.species.0 < self.now.species_count }
     {
         let at = site.0 as usize;
         let mark = self.marks[at];
@@ -135,24 +119,24 @@ impl Surface {
 
     /// How many sites have the species.
     pub fn count(&self, species: SpeciesId) -> u32
-        requires { species.0 < self.now.kinds }
+        requires { species.0 < self.now.species_count }
         ensures { result ≡ count_by (λ s. s.species.0 == species.0) self.now.sites }
     {
         self.counts[usize::from(species.0)]
     }
 
     /// Rewrites the sites of the event's place: the first to the first species and, where the place is a pair, the
-    /// second to the second. Each gets one more version, and the event's time as its last. Tells what stood there.
+    /// second to the second. Each gets one more version, and the event's time as its last. Gives what stood there.
     pub fn apply(&mut self, event: Event, to: (SpeciesId, Option<SpeciesId>)) -> Before
         requires place { IsPlace self.old.lattice event.place.0 }
         requires pair { IsSecondOf self.old.lattice event.place.0 to.1 }
-        requires species { AreBelow self.old.kinds to.0 to.1 }
+        requires species { AreBelow self.old.species_count to.0 to.1 }
         requires room { HasRoom self.old.lattice self.old.sites event.place.0 }
         ensures surface { self.new ≡ applied self.old event to }
         ensures event { result.event ≡ event }
         ensures stood { IsBefore self.old result }
         ensures pair { IsSecondOf self.old.lattice event.place.0 result.second }
-        ensures below { IsBelow self.old.kinds result }
+        ensures below { IsBelow self.old.species_count result }
     {
         let place = self.lattice.sites_of(event.place).unwrap();
         let first = self.rewrite(place.first, to.0, event.time);
@@ -172,7 +156,7 @@ impl Surface {
     pub fn undo(&mut self, before: Before)
         requires place { IsPlace self.old.lattice before.event.place.0 }
         requires pair { IsSecondOf self.old.lattice before.event.place.0 before.second }
-        requires species { IsBelow self.old.kinds before }
+        requires species { IsBelow self.old.species_count before }
         requires left { IsLeft self.old before }
         ensures { self.new ≡ undone self.old before }
     {
@@ -183,14 +167,14 @@ impl Surface {
         }
     }
 
-    /// Rewrites a site, also where it keeps its species. Tells what stood there.
+    /// Rewrites a site, also where it keeps its species. Gives what stood there.
     fn rewrite(&mut self, site: SiteId, species: SpeciesId, time: u64) -> SiteState
         requires site { site.0 < self.old.lattice.rows * self.old.lattice.cols }
-        requires species { species.0 < self.old.kinds }
+        requires species { species.0 < self.old.species_count }
         requires room { IfSome (slice_get self.old.sites site.0) (λ s. s.version < 2 ^ 64 - 1) }
         ensures surface { self.new ≡ record self.old { sites = rewrite_by (λ _. species) time site.0 (slice_get self.old.sites site.0) self.old.sites } }
         ensures stood { slice_get self.old.sites site.0 ≡ Some result }
-        ensures below { result.species.0 < self.old.kinds }
+        ensures below { result.species.0 < self.old.species_count }
     {
         let old = self.state(site);
         let new = SiteState {
@@ -205,7 +189,7 @@ impl Surface {
     /// Puts a state at a site, and counts again.
     fn put(&mut self, site: SiteId, state: SiteState)
         requires site { site.0 < self.old.lattice.rows * self.old.lattice.cols }
-        requires species { state.species.0 < self.old.kinds }
+        requires species { state.species.0 < self.old.species_count }
         ensures { self.new ≡ record self.old { sites = slice_set self.old.sites site.0 state } }
     {
         let at = site.0 as usize;

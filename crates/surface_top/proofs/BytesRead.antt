@@ -1,16 +1,112 @@
 -- The answer to the bytes that were read.
-use Rattle.std.proofs.Common.{rules, ◌≡◌, ℕ, ◌≤◌, Bool, true, false, cond, List, length, Option, Some, None, subst, arith}
-use Rattle.std.specs.Prelude.{IfSome, nat_lt}
+use Rattle.std.proofs.Common.{◌≡◌, ℕ, ◌<◌, ◌≤◌, Bool, true, false, cond, List, [], ◌++◌, length, take, Option, Some, None, refl, sym, ap, ◌∙◌, subst, arith, length-append}
+use Rattle.std.specs.Prelude.{IfSome, nat_lt, unwrap_or, ◌&&◌}
+use Rattle.std.specs.Option.{option_map_or}
+use Rattle.std.specs.Io.KnownBytes.{Appends, Consumes}
 use Rattle.std.proofs.lemmas.Bool.Decides.{nat_tests}
+use Rattle.surface_words.specs.declared.commands.Program.TheVariants.{Surface}
 use Rattle.surface_words.specs.declared.words.Words.{Words}
-use Rattle.surface_top.specs.Answer.{Answer, TooLong, answer_within, answer_to}
+use Rattle.surface_words.specs.declared.words.Words.TheVariants as said
+use Rattle.surface_words.specs.FirstWrong.{first_wrong}
+use Rattle.surface_words.specs.Accepted.{is_accepted}
+use Rattle.surface_words.specs.Reading.{reading, reads, spelled_words}
+use Rattle.surface_top.specs.declared.ending.Ending.{Ending}
+use Rattle.surface_top.specs.declared.ending.Ending.TheVariants as ending
+use Rattle.surface_top.specs.Answer.{Answer, TooLong, WrongWord, answer_within, answer_to, is_too_long, specified_answer}
+use Rattle.surface_top.specs.Ending.{status_of, IsEndingOf, EndsAs}
+use Rattle.surface_top.specs.Outcome.{OutGains}
+use Rattle.surface_top.proofs.Written.{appends_none}
 
-of_right : (P : Answer → Type 0) (long : Bool) (a : Answer) → long ≡ false → P a → P (cond long TooLong a)
-of_right P false a h p = p
-of_right P true a h p = search rules
+-- the bytes of a source: those that it tells, or else these
+abbrev pub given : Option (List ℕ) → List ℕ → List ℕ
+given unread bytes = unwrap_or unread bytes
 
--- where the bytes are told, what holds of the answer to the text that was read holds of the answer to them
-pub of_text : (P : Answer → Type 0) (o : Option (List ℕ)) (text : List ℕ) (words : List (List ℕ)) (said : Words) → IfSome o (λ bytes. text ≡ bytes) → length text ≤ 67108864 → P (answer_within said words text) → IfSome o (λ bytes. P (answer_to words said bytes))
-of_text P None text words said h few p = tt
-of_text P (Some bytes) text words said h few p =
-    of_right P (nat_lt 67108864 (length bytes)) (answer_within said words bytes) (let short : length bytes ≤ 67108864 = subst (λ l. length l ≤ 67108864) h few in grind (arith, nat_tests)) (subst (λ l. P (answer_within said words l)) h p)
+pub given_agrees : (unread : Option (List ℕ)) (bytes : List ℕ) → IfSome unread (λ all. given unread bytes ≡ all)
+given_agrees None bytes = tt
+given_agrees (Some all) bytes = refl
+
+-- nothing was read of the answer, and nothing written
+
+pub ends_read_fault : (answer : List ℕ → Answer) (unread old : Option (List ℕ)) → EndsAs answer ending.ReadFault unread old old
+ends_read_fault answer unread old = record { bytes = given unread []; agrees = given_agrees unread []; is_of = tt; gains = appends_none old }
+
+pub ends_memory : (answer : List ℕ → Answer) (unread old : Option (List ℕ)) → EndsAs answer ending.Memory unread old old
+ends_memory answer unread old = record { bytes = given unread []; agrees = given_agrees unread []; is_of = tt; gains = (0, appends_none old) }
+
+-- the answer is this one, which has no text
+pub ends_bare : (answer : List ℕ → Answer) (e : Ending) (a : Answer) (bytes : List ℕ) (unread old : Option (List ℕ)) → answer (given unread bytes) ≡ a → IsEndingOf e a → OutGains (status_of e) a old old → EndsAs answer e unread old old
+ends_bare answer e a bytes unread old is h g = record {
+  bytes = given unread bytes;
+  agrees = given_agrees unread bytes;
+  is_of = subst (IsEndingOf e) (sym is) h;
+  gains = subst (λ x. OutGains (status_of e) x old old) (sym is) g;
+}
+
+-- a source that gave more bytes has more
+given_more : (unread rest : Option (List ℕ)) (bytes : List ℕ) (most : ℕ) → Consumes unread rest bytes → most < length bytes → most < length (given unread bytes)
+given_more None rest bytes most taken more = more
+given_more (Some all) None bytes most taken more = absurd taken
+given_more (Some all) (Some left) bytes most taken more =
+    let long = ap length taken in
+    omega (arith, long, length-append bytes left, more)
+
+too_long : (command : Words) (bytes : List ℕ) → reads command ≡ true → 67108864 < length bytes → is_too_long command bytes ≡ true
+too_long command bytes h more =
+    let test : nat_lt 67108864 (length bytes) ≡ true = grind (arith, nat_tests) in
+    ap (λ b. b && nat_lt 67108864 (length bytes)) h ∙ test
+
+short : (command : Words) (bytes : List ℕ) → reads command ≡ true → length bytes ≤ 67108864 → is_too_long command bytes ≡ false
+short command bytes h few =
+    let test : nat_lt 67108864 (length bytes) ≡ false = grind (arith, nat_tests) in
+    ap (λ b. b && nat_lt 67108864 (length bytes)) h ∙ test
+
+pub ends_too_long : (words : List (List ℕ)) (command : Words) (bytes : List ℕ) (unread rest old : Option (List ℕ)) → reads command ≡ true → Consumes unread rest bytes → 67108864 < length bytes → EndsAs (answer_to words command) ending.TooLong unread old old
+ends_too_long words command bytes unread rest old h taken more =
+    ends_bare (answer_to words command) ending.TooLong TooLong bytes unread old
+    (ap (λ b. cond b TooLong (answer_within command words (given unread bytes))) (too_long command (given unread bytes) h (given_more unread rest bytes 67108864 taken more)))
+    refl (appends_none old)
+
+-- the text that was read is answered
+pub ends_within : (words : List (List ℕ)) (command : Words) (text : List ℕ) (e : Ending) (unread old new : Option (List ℕ)) → reads command ≡ true → length text ≤ 67108864 → IfSome unread (λ all. text ≡ all)
+    → IsEndingOf e (answer_within command words text) → OutGains (status_of e) (answer_within command words text) old new → EndsAs (answer_to words command) e unread old new
+ends_within words command text e unread old new h few agrees is gains =
+    let same : answer_to words command text ≡ answer_within command words text = ap (λ b. cond b TooLong (answer_within command words text)) (short command text h few) in
+    record {
+      bytes = text;
+      agrees = agrees;
+      is_of = subst (IsEndingOf e) (sym same) is;
+      gains = subst (λ x. OutGains (status_of e) x old new) (sym same) gains;
+    }
+
+-- accepted words are answered by what they say
+pub ends_accepted : (words : List (List ℕ)) (command : Words) (e : Ending) (unread old new : Option (List ℕ)) → reading Surface words ≡ Some command → EndsAs (answer_to words command) e unread old new → EndsAs (specified_answer Surface words) e unread old new
+ends_accepted words command e unread old new is h =
+    let same : specified_answer Surface words h.bytes ≡ answer_to words command h.bytes = ap (λ o. option_map_or (λ c. answer_to words c h.bytes) o (WrongWord (unwrap_or (first_wrong Surface words) 0))) is in
+    record {
+      bytes = h.bytes;
+      agrees = h.agrees;
+      is_of = subst (IsEndingOf e) (sym same) h.is_of;
+      gains = subst (λ x. OutGains (status_of e) x old new) (sym same) h.gains;
+    }
+
+-- others by their first wrong one
+pub ends_wrong : (words : List (List ℕ)) (index : ℕ) (unread old : Option (List ℕ)) → reading Surface words ≡ None → first_wrong Surface words ≡ Some index → EndsAs (specified_answer Surface words) (ending.WrongWord index) unread old old
+ends_wrong words index unread old none first =
+    ends_bare (specified_answer Surface words) (ending.WrongWord index) (WrongWord index) [] unread old
+    (ap (λ o. option_map_or (λ c. answer_to words c (given unread [])) o (WrongWord (unwrap_or (first_wrong Surface words) 0))) none ∙ ap (λ o. WrongWord (unwrap_or o 0)) first)
+    refl (appends_none old)
+
+-- each command of the program reads
+pub each_reads : (words : Words) → reads words ≡ true
+each_reads said.Check = refl
+each_reads said.Print = refl
+each_reads (said.Run workers seed until samples limit) = refl
+each_reads (said.Value inputs) = refl
+
+-- words that aren't accepted say nothing
+pub unread_words : (words : List (List ℕ)) → (is_accepted Surface words ≡ true → ⊥) → reading Surface words ≡ None
+unread_words words h = by (is_accepted Surface words) h
+  where
+    by : (b : Bool) → (b ≡ true → ⊥) → cond b (spelled_words Surface words) None ≡ None
+    by true h = absurd (h refl)
+    by false h = refl

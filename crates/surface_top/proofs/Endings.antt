@@ -7,13 +7,13 @@ use Rattle.surf_kinds.specs.declared.site.SiteState.{SiteState}
 use Rattle.surf_kinds.specs.declared.site.SpeciesId.{SpeciesId}
 use Rattle.surf_outside.specs.Causes.{Rose}
 use Rattle.surf_outside.specs.Known.{AppendsPrefix}
-use Rattle.surf_outside.proofs.Gains.{prefix_whole}
+use Rattle.surf_outside.proofs.LawLemmas.{prefix_whole}
 use Rattle.lattice.specs.Surface.{fresh, first_surface}
 use Rattle.plan.specs.Network.{Network}
-use Rattle.surface_state.specs.Standing.{Standing}
+use Rattle.surface_state.specs.SurfaceView.{SurfaceView}
 use Rattle.one_engine.specs.State.{State, LeavesWithin}
 use Rattle.one_engine.specs.Running.{IsSettled}
-use Rattle.one_engine.proofs.After.{first_settled}
+use Rattle.one_engine.proofs.LawLemmas.{first_settled}
 use Rattle.surface_top.specs.declared.pages.Stop.{Stop}
 use Rattle.surface_top.specs.declared.pages.Stop.TheVariants as stops
 use Rattle.surface_top.specs.declared.writer.Span.{Span}
@@ -33,44 +33,44 @@ first_versions cells = All-map (λ (s : SiteState). s.version ≤ 7 * s.last) fr
 pub first_lasts : (cells : List SpeciesId) → All (λ (s : SiteState). s.last ≤ 10 ^ 15) (first_surface cells)
 first_lasts cells = All-map (λ (s : SiteState). s.last ≤ 10 ^ 15) fresh cells (λ k d h. omega arith)
 
--- a writer that has told nothing of a run on a first surface is ready
-pub begins_ready : (s : Scene) (span : Span) (first : Standing) (w : Writer) (cells : List SpeciesId) → Begins span first w → s.until ≡ span.until → s.limit ≡ span.limit → s.until ≤ 10 ^ 15 → first.lattice ≡ s.network.lattice → first.kinds ≡ length s.names
-    → All (LeavesWithin first.kinds) s.network.rules → first.sites ≡ first_surface cells → IsReady s w
-begins_ready s span first w cells b until limit long lattice kinds species is = record {
+-- a writer that has written nothing of a run on a first surface is ready
+pub begins_ready : (s : Scene) (span : Span) (first : SurfaceView) (w : Writer) (cells : List SpeciesId) → Begins span first w → s.until ≡ span.until → s.limit ≡ span.limit → s.until ≤ 10 ^ 15 → first.lattice ≡ s.network.lattice → first.species_count ≡ length s.names
+    → All (LeavesWithin first.species_count) s.network.rules → first.sites ≡ first_surface cells → IsReady s w
+begins_ready s span first w cells b until limit long lattice species_count species is = record {
   long = long;
-  lattice = ap (λ (x : Standing). x.lattice) b.surface ∙ lattice;
-  kinds = ap (λ (x : Standing). x.kinds) b.surface ∙ kinds;
-  species = subst (λ (x : Standing). All (LeavesWithin x.kinds) s.network.rules) (sym b.surface) species;
-  settled = subst (All IsSettled) (sym (ap (λ (x : Standing). x.sites) b.surface ∙ is)) (first_settled cells);
+  lattice = ap (λ (x : SurfaceView). x.lattice) b.surface ∙ lattice;
+  species_count = ap (λ (x : SurfaceView). x.species_count) b.surface ∙ species_count;
+  species = subst (λ (x : SurfaceView). All (LeavesWithin x.species_count) s.network.rules) (sym b.surface) species;
+  settled = subst (All IsSettled) (sym (ap (λ (x : SurfaceView). x.sites) b.surface ∙ is)) (first_settled cells);
   tally = b.tally ∙ (ap (λ (n : ℕ). record { limit = span.limit; admitted = n }) (sym b.events) ∙ ap (λ (n : ℕ). record { limit = n; admitted = w.events }) (sym limit));
   within = omega (arith, b.events);
   ticks = subst (λ (n : ℕ). All (λ tick. tick ≤ n) w.ticks) (sym until) b.within;
 }
 
 -- what it tells to the end is the whole run
-pub begins_ends : {T : Type 0} (names : List (List ℕ)) (network : Network) (span : Span) (first copy : Standing) (engine : State) (w : Writer) (a b : Page) (r : Result T Stop) → copy ≡ first → engine ≡ record { network = network; surface = first } → Begins span copy w
+pub begins_ends : {T : Type 0} (names : List (List ℕ)) (network : Network) (span : Span) (first copy : SurfaceView) (engine : State) (w : Writer) (a b : Page) (r : Result T Stop) → copy ≡ first → engine ≡ record { network = network; surface = first } → Begins span copy w
     → Ends (scene names engine.network span) (reached_of w) a b r → Ends (scene names network span) (start (scene names network span) first.sites) a b r
 begins_ends names network span first copy engine w a b r is made h e =
     let s = scene names network span in
-    let reached : reached_of w ≡ start s first.sites = same_reached _ _ _ _ _ _ (ap (λ (x : Standing). x.sites) (h.surface ∙ is)) h.events h.ticks in
+    let reached : reached_of w ≡ start s first.sites = same_reached _ _ _ _ _ _ (ap (λ (x : SurfaceView). x.sites) (h.surface ∙ is)) h.events h.ticks in
     subst (λ (x : Reached). Ends s x a b r) reached
     (subst (λ (x : State). Ends (scene names x.network span) (reached_of w) a b r) made e)
 
-sent_all : (a b : Page) (x : List ℕ) → a.pending ≡ [] → Sent a b x → Appends a.held b.held x
+sent_all : (a b : Page) (x : List ℕ) → a.pending ≡ [] → Sent a b x → Appends a.written b.written x
 sent_all a b x none p = wrote_all a b x p.wrote none p.none
 
-stopped_prefix : (a b : Page) (x : List ℕ) (stop : Stop) → a.pending ≡ [] → Stopped a b x stop → AppendsPrefix a.held b.held x
-stopped_prefix a b x stop none p = subst (AppendsPrefix a.held b.held) (ap (λ l. l ++ x) none) p.prefix
+stopped_prefix : (a b : Page) (x : List ℕ) (stop : Stop) → a.pending ≡ [] → Stopped a b x stop → AppendsPrefix a.written b.written x
+stopped_prefix a b x stop none p = subst (AppendsPrefix a.written b.written) (ap (λ l. l ++ x) none) p.prefix
 
-pub sends_gains : {T : Type 0} (a b : Page) (x : List ℕ) (r : Result T Stop) → a.pending ≡ [] → Sends a b x r → RunGains r x a.held b.held
+pub sends_gains : {T : Type 0} (a b : Page) (x : List ℕ) (r : Result T Stop) → a.pending ≡ [] → Sends a b x r → RunGains r x a.written b.written
 sends_gains a b x (Ok v) none p = sent_all a b x none p
 sends_gains a b x (Err stops.Limit) none p = sent_all a b x none p
 sends_gains a b x (Err stops.Write) none p = stopped_prefix a b x stops.Write none p
 sends_gains a b x (Err stops.Memory) none p = stopped_prefix a b x stops.Memory none p
 
-pub sends_prefix : {T : Type 0} (a b : Page) (x : List ℕ) (r : Result T Stop) → a.pending ≡ [] → Sends a b x r → AppendsPrefix a.held b.held x
-sends_prefix a b x (Ok v) none p = prefix_whole a.held b.held x (sent_all a b x none p)
-sends_prefix a b x (Err stops.Limit) none p = prefix_whole a.held b.held x (sent_all a b x none p)
+pub sends_prefix : {T : Type 0} (a b : Page) (x : List ℕ) (r : Result T Stop) → a.pending ≡ [] → Sends a b x r → AppendsPrefix a.written b.written x
+sends_prefix a b x (Ok v) none p = prefix_whole a.written b.written x (sent_all a b x none p)
+sends_prefix a b x (Err stops.Limit) none p = prefix_whole a.written b.written x (sent_all a b x none p)
 sends_prefix a b x (Err stops.Write) none p = stopped_prefix a b x stops.Write none p
 sends_prefix a b x (Err stops.Memory) none p = stopped_prefix a b x stops.Memory none p
 

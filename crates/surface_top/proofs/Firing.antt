@@ -8,22 +8,20 @@ use Rattle.lattice.specs.Shape.{Shape}
 use Rattle.lattice.specs.Places.{IsPlace}
 use Rattle.lattice.specs.Surface.{after, IsChannelOf, HasRoom}
 use Rattle.plan.specs.Products.{products_of}
-use Rattle.plan.proofs.Steps.{of_due}
-use Rattle.plan.proofs.KeyByKey.{due_next}
-use Rattle.plan.proofs.Runs.{CanFire, can_fire}
+use Rattle.plan.proofs.LawLemmas.{due_next, offer_fits, fits_products}
 use Rattle.ordered_commit.specs.Count.{Count}
-use Rattle.surface_state.specs.Standing.{Standing}
+use Rattle.surface_state.specs.SurfaceView.{SurfaceView}
 use Rattle.surface_state.specs.Changes.{applied, IsSecondOf, AreBelow}
-use Rattle.surface_state.proofs.Products.{applied_after}
+use Rattle.surface_state.proofs.LawLemmas.{applied_after}
 use Rattle.one_engine.specs.State.{LeavesWithin}
-use Rattle.one_engine.specs.Running.{IsSettled}
-use Rattle.one_engine.proofs.After.{open_all, settled_after}
-use Rattle.one_engine.proofs.Offered.{products_are, products_pair, products_below}
+use Rattle.one_engine.specs.Running.{IsSettled, CanFire}
+use Rattle.one_engine.proofs.LawLemmas.{can_fire, settled_after, leaves_products}
 use Rattle.surface_top.specs.declared.writer.Writer.{Writer}
 use Rattle.surface_top.specs.RunText.{Scene, Reached, reached, ticks_from, ticks_before}
-use Rattle.surface_top.specs.Writing.{reached_of, next_due, IsReady}
+use Rattle.plan.specs.History.{due}
+use Rattle.surface_top.specs.Writing.{reached_of, IsReady}
 use Rattle.surface_top.proofs.Sampling.{within_from, all_before}
-use Rattle.surface_top.proofs.Telling.{IsDue}
+use Rattle.surface_top.proofs.Progressing.{IsDue}
 
 -- a writer that has shown its surface is ready still
 pub ready_shown : (s : Scene) (w v : Writer) (time : ℕ) → v ≡ record w { ticks = ticks_from time w.ticks; buffer = v.buffer } → IsReady s w → IsReady s v
@@ -31,7 +29,7 @@ ready_shown s w v time is h =
     subst (IsReady s) (sym is) (record {
       long = h.long;
       lattice = h.lattice;
-      kinds = h.kinds;
+      species_count = h.species_count;
       species = h.species;
       settled = h.settled;
       tally = h.tally;
@@ -41,11 +39,11 @@ ready_shown s w v time is h =
 
 pub due_shown : (s : Scene) (w v : Writer) (time : ℕ) (e : Event) → v ≡ record w { ticks = ticks_from time w.ticks; buffer = v.buffer } → IsDue s (reached_of w) e → IsDue s (reached_of v) e
 due_shown s w v time e is h =
-    ap (λ (x : Writer). next_due s.network s.until x.surface.sites) is ∙ h
+    ap (λ (x : Writer). due s.network s.until x.surface.sites) is ∙ h
 
 -- the event can happen on the writer's surface
-fires : (s : Scene) (v : Writer) (e : Event) → IsReady s v → IsDue s (reached_of v) e → CanFire s.network.lattice s.network.rules v.surface.sites e
-fires s v e h d = can_fire s.network.lattice s.network.seed s.network.rules s.until v.surface.sites e d (open_all v.surface.sites h.settled)
+fires : (s : Scene) (v : Writer) (e : Event) → IsReady s v → IsDue s (reached_of v) e → CanFire s.network v.surface.sites e
+fires s v e h d = can_fire s.network s.until v.surface.sites e d h.settled
 
 pub fires_place : (s : Scene) (v : Writer) (e : Event) → IsReady s v → IsDue s (reached_of v) e → IsPlace s.network.lattice e.place.0
 fires_place s v e h d = (fires s v e h d).place
@@ -62,22 +60,22 @@ fires_room s v e h d = subst (λ (l : Shape). HasRoom l v.surface.sites e.place.
 pub fires_pair : (s : Scene) (v : Writer) (e : Event) (to : SpeciesId × Option SpeciesId) → IsReady s v → IsDue s (reached_of v) e → Some to ≡ products_of s.network.rules e.channel → IsSecondOf v.surface.lattice e.place.0 to.1
 fires_pair s v e to h d is =
     subst (λ (l : Shape). IsSecondOf l e.place.0 to.1) (sym h.lattice)
-    (products_pair s.network.lattice s.network.seed s.network.rules v.surface.sites e to (due_next s.network.lattice s.network.seed s.network.rules s.until v.surface.sites e d) is)
+    (fits_products s.network e.place.0 e.channel to (offer_fits s.network v.surface.sites e.place.0 e (due_next s.network s.until v.surface.sites e d).0) is)
 
-pub fires_species : (s : Scene) (v : Writer) (e : Event) (to : SpeciesId × Option SpeciesId) → IsReady s v → Some to ≡ products_of s.network.rules e.channel → AreBelow v.surface.kinds to.0 to.1
-fires_species s v e to h is = products_below v.surface.kinds s.network.rules e.channel to h.species is
+pub fires_species : (s : Scene) (v : Writer) (e : Event) (to : SpeciesId × Option SpeciesId) → IsReady s v → Some to ≡ products_of s.network.rules e.channel → AreBelow v.surface.species_count to.0 to.1
+fires_species s v e to h is = leaves_products v.surface.species_count s.network.rules e.channel to h.species is
 
 -- the surface with the products of the event is the surface after it
-after_event : (s : Scene) (v : Writer) (surface : Standing) (e : Event) (to : SpeciesId × Option SpeciesId) → IsReady s v → Some to ≡ products_of s.network.rules e.channel → surface ≡ applied v.surface e to → surface ≡ record v.surface { sites = after s.network.lattice s.network.rules v.surface.sites e }
+after_event : (s : Scene) (v : Writer) (surface : SurfaceView) (e : Event) (to : SpeciesId × Option SpeciesId) → IsReady s v → Some to ≡ products_of s.network.rules e.channel → surface ≡ applied v.surface e to → surface ≡ record v.surface { sites = after s.network.lattice s.network.rules v.surface.sites e }
 after_event s v surface e to h is ap_is =
-    ap_is ∙ ap (λ (xs : List SiteState). record v.surface { sites = xs }) (applied_after v.surface s.network.rules e to (products_are s.network.rules e to is) ∙ ap (λ (k : Shape). after k s.network.rules v.surface.sites e) h.lattice)
+    ap_is ∙ ap (λ (xs : List SiteState). record v.surface { sites = xs }) (applied_after v.surface s.network.rules e to is ∙ ap (λ (k : Shape). after k s.network.rules v.surface.sites e) h.lattice)
 
 -- a writer before an event and after it: it has shown its surface, admitted the event, and fired it
 pub record Fires (s : Scene) (w v u : Writer) (e : Event) : Type 0 where
   pub ready : IsReady s w
   pub due : IsDue s (reached_of w) e
   pub shown : v ≡ record w { ticks = ticks_from e.time w.ticks; buffer = v.buffer }
-  pub surface : Standing
+  pub surface : SurfaceView
   pub tally : Count
   pub number : ℕ
   pub is : u ≡ record v { surface = surface; tally = tally; events = number; buffer = u.buffer }
@@ -101,7 +99,7 @@ surface_u s w v u e f = after_event s v f.surface e f.to (ready_v s w v u e f) f
 pub fires_sites : (s : Scene) (w v u : Writer) (e : Event) → Fires s w v u e → u.surface.sites ≡ after s.network.lattice s.network.rules w.surface.sites e
 fires_sites s w v u e f =
     ap (λ (x : Writer). x.surface.sites) f.is
-    ∙ (ap (λ (x : Standing). x.sites) (surface_u s w v u e f)
+    ∙ (ap (λ (x : SurfaceView). x.sites) (surface_u s w v u e f)
     ∙ ap (λ (xs : List SiteState). after s.network.lattice s.network.rules xs e) (sites_v s w v u e f))
 
 number_w : (s : Scene) (w v u : Writer) (e : Event) (f : Fires s w v u e) → f.number ≡ w.events + 1
@@ -132,9 +130,9 @@ fires_reached s w v u e f =
 settled_u : (s : Scene) (w v u : Writer) (e : Event) (f : Fires s w v u e) → All IsSettled f.surface.sites
 settled_u s w v u e f =
     let h : IsReady s v = ready_v s w v u e f in
-    let d = of_due s.network.lattice s.network.seed s.network.rules s.until v.surface.sites e (due_shown s w v e.time e f.shown f.due) in
-    subst (λ (x : Standing). All IsSettled x.sites) (sym (surface_u s w v u e f))
-    (settled_after s.network.lattice s.network.rules v.surface.sites e d.of_surface (omega (arith, d.in_time, h.long)) h.settled)
+    let d = due_next s.network s.until v.surface.sites e (due_shown s w v e.time e f.shown f.due) in
+    subst (λ (x : SurfaceView). All IsSettled x.sites) (sym (surface_u s w v u e f))
+    (settled_after s.network v.surface.sites e d.0 (omega (arith, d.1, h.long)) h.settled)
 
 -- and is ready for the next one
 pub fires_ready : (s : Scene) (w v u : Writer) (e : Event) → Fires s w v u e → IsReady s u
@@ -143,12 +141,12 @@ fires_ready s w v u e f =
     let same : f.surface ≡ record v.surface { sites = after s.network.lattice s.network.rules v.surface.sites e } = surface_u s w v u e f in
     let n : f.number ≡ w.events + 1 = number_w s w v u e f in
     let below : w.events < s.limit = fires_below s w v u e f in
-    let kinds : f.surface.kinds ≡ v.surface.kinds = ap (λ (x : Standing). x.kinds) same in
+    let species_count : f.surface.species_count ≡ v.surface.species_count = ap (λ (x : SurfaceView). x.species_count) same in
     subst (IsReady s) (sym f.is) (record {
       long = h.long;
-      lattice = ap (λ (x : Standing). x.lattice) same ∙ h.lattice;
-      kinds = kinds ∙ h.kinds;
-      species = subst (λ (k : ℕ). All (LeavesWithin k) s.network.rules) (sym kinds) h.species;
+      lattice = ap (λ (x : SurfaceView). x.lattice) same ∙ h.lattice;
+      species_count = species_count ∙ h.species_count;
+      species = subst (λ (k : ℕ). All (LeavesWithin k) s.network.rules) (sym species_count) h.species;
       settled = settled_u s w v u e f;
       tally = tally_u s w v u e f;
       within = omega (arith, n, below);
@@ -159,14 +157,14 @@ fires_ready s w v u e f =
 pub shows_all : (s : Scene) (w : Writer) → IsReady s w → ticks_before (s.until + 1) w.ticks ≡ w.ticks
 shows_all s w h = all_before (s.until + 1) w.ticks (λ k d inside. let le : get_or w.ticks k d ≤ s.until = h.ticks k d inside in omega (arith, le))
 
--- where no more event is admitted, as many events were told as the limit allows
-pub cut_events : (s : Scene) (w v : Writer) (time : ℕ) → IsReady s w → v ≡ record w { ticks = ticks_from time w.ticks; buffer = v.buffer } → v.tally.admitted + 1 ≡ v.tally.limit + 1 → w.events ≡ s.limit
-cut_events s w v time h is full =
+-- where no more event is admitted, as many events were written as the limit allows
+pub stop_events : (s : Scene) (w v : Writer) (time : ℕ) → IsReady s w → v ≡ record w { ticks = ticks_from time w.ticks; buffer = v.buffer } → v.tally.admitted + 1 ≡ v.tally.limit + 1 → w.events ≡ s.limit
+stop_events s w v time h is full =
     let before : v.tally ≡ record { limit = s.limit; admitted = w.events } = ap (λ (x : Writer). x.tally) is ∙ h.tally in
     let admitted : v.tally.admitted ≡ w.events = ap (λ (x : Count). x.admitted) before in
     let limit : v.tally.limit ≡ s.limit = ap (λ (x : Count). x.limit) before in
     omega (arith, admitted, limit, full)
 
-pub cut_limit : (s : Scene) (w v : Writer) (time limit : ℕ) → IsReady s w → v ≡ record w { ticks = ticks_from time w.ticks; buffer = v.buffer } → limit ≡ v.tally.limit → limit ≡ s.limit
-cut_limit s w v time limit h is same =
+pub stop_limit : (s : Scene) (w v : Writer) (time limit : ℕ) → IsReady s w → v ≡ record w { ticks = ticks_from time w.ticks; buffer = v.buffer } → limit ≡ v.tally.limit → limit ≡ s.limit
+stop_limit s w v time limit h is same =
     same ∙ (ap (λ (x : Writer). x.tally.limit) is ∙ ap (λ (x : Count). x.limit) h.tally)

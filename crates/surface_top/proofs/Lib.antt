@@ -3,10 +3,13 @@ mod Values
 mod RunEnds
 mod Statuses
 mod BytesRead
+mod Outcomes
 mod Batches
 mod Endings
 mod Firing
 mod Sampling
 mod Showing
-mod Telling
+mod Progressing
 mod Written
+mod CutTexts
+mod SpeciesKept

@@ -3,7 +3,7 @@ use Rattle.std.proofs.Common.{◌≡◌, ℕ, List, [], ◌∷◌, ◌++◌, Opt
 use Rattle.std.specs.Prelude.{Result, Ok, Err, OnOk, OnErr, IfSome}
 use Rattle.std.specs.Io.KnownBytes.{Appends}
 use Rattle.surf_outside.specs.Known.{AppendsPrefix}
-use Rattle.surf_outside.proofs.Gains.{prefix_whole}
+use Rattle.surf_outside.proofs.LawLemmas.{prefix_whole}
 use Rattle.surface_top.specs.Outcome.{Gains}
 
 pub ruleset joined = (append_assoc)

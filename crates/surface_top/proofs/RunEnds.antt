@@ -1,6 +1,7 @@
 -- How a call ends after a run.
-use Rattle.std.proofs.Common.{rules, ◌≡◌, ℕ, Bool, true, false, cond, List, length, Option, refl, ap, ◌∙◌, subst, arith}
-use Rattle.std.specs.Prelude.{Result, Ok, Err, nat_lt, unwrap_or, IsErrOf}
+use Rattle.std.proofs.Common.{rules, ◌≡◌, ℕ, Bool, true, false, cond, List, [], ◌∷◌, ◌++◌, length, Option, refl, ap, ◌∙◌, subst, arith}
+use Rattle.std.specs.Prelude.{Result, Ok, Err, nat_lt, unwrap_or, IsErrOf, ◌≢◌, ◌==◌}
+use Rattle.surf_kinds.specs.declared.event.Event.{Event}
 use Rattle.std.proofs.lemmas.Bool.Decides.{nat_tests}
 use Rattle.std.specs.Io.KnownBytes.{Appends}
 use Rattle.surf_outside.specs.Causes.{Rose}
@@ -13,7 +14,8 @@ use Rattle.manifest_read.specs.declared.manifest.Manifest.{Manifest}
 use Rattle.plan.specs.Network.{Network}
 use Rattle.surface_top.specs.Answer.{Answer, Text, EventLimit, scene_of}
 use Rattle.surface_top.specs.Ending.{Answered, run_ending}
-use Rattle.surface_top.specs.RunText.{Scene, events_of, run_text}
+use Rattle.trace_text.specs.Lines.{event_text, end_text, limit_text}
+use Rattle.surface_top.specs.RunText.{Scene, Reached, events_of, shown, ticks_before, reached, start, text_from, run_text}
 use Rattle.surface_top.specs.Stops.{IsLimited, RunGains}
 use Rattle.surface_top.specs.Writing.{scene}
 
@@ -28,19 +30,49 @@ ends_limited : (over : Bool) (limit : ℕ) (text : List ℕ) (old new : Option (
 ends_limited true limit text old new f n h g = record { is_of = (text, refl); gains = g; write = search rules; read = search rules }
 ends_limited false limit text old new f n h g = search rules
 
-ends_stopped : (over : Bool) (limit : ℕ) (text : List ℕ) (old new : Option (List ℕ)) (f n : ℕ) → AppendsPrefix old new text → Rose f n → Answered (by_limit over limit text) ending.WriteFault old new f n
-ends_stopped false limit text old new f n g w = record { is_of = tt; gains = g; write = λ _. w; read = search rules }
-ends_stopped true limit text old new f n g w = record { is_of = tt; gains = g; write = λ _. w; read = search rules }
+ends_stopped : (over : Bool) (limit : ℕ) (text : List ℕ) (old new : Option (List ℕ)) (f n : ℕ) → text ≢ [] → AppendsPrefix old new text → Rose f n → Answered (by_limit over limit text) ending.WriteFault old new f n
+ends_stopped false limit text old new f n some g w = record { is_of = some; gains = g; write = λ _. w; read = search rules }
+ends_stopped true limit text old new f n some g w = record { is_of = some; gains = g; write = λ _. w; read = search rules }
 
 ends_wanting : (over : Bool) (limit : ℕ) (text : List ℕ) (old new : Option (List ℕ)) (f n : ℕ) → AppendsPrefix old new text → Answered (by_limit over limit text) ending.Memory old new f n
 ends_wanting false limit text old new f n g = record { is_of = tt; gains = g; write = search rules; read = search rules }
 ends_wanting true limit text old new f n g = record { is_of = tt; gains = g; write = search rules; read = search rules }
 
+-- a run text has a last line
+
+behind_some : (x y : List ℕ) → y ≢ [] → x ++ y ≢ []
+behind_some [] y h = h
+behind_some (c ∷ x) y h = λ e. cc
+
+end_some : (until events : ℕ) → end_text until events ≢ []
+unfolding end_text
+end_some until events = λ e. cc
+
+limit_some : (limit : ℕ) → limit_text limit ≢ []
+unfolding limit_text
+limit_some limit = λ e. cc
+
+event_some : (cols : ℕ) (e : Event) (rest : List ℕ) → event_text cols e ++ rest ≢ []
+unfolding event_text
+event_some cols e rest = λ h. cc
+
+next_some : (full : Bool) (s : Scene) (e : Event) (rest : List ℕ) → cond full (limit_text s.limit) (event_text s.network.lattice.cols e ++ rest) ≢ []
+next_some true s e rest = limit_some s.limit
+next_some false s e rest = event_some s.network.lattice.cols e rest
+
+text_some : (es : List Event) (s : Scene) (r : Reached) → text_from es s r ≢ []
+unfolding text_from
+text_some [] s r = behind_some (shown s r r.ticks) (end_text s.until r.events) (end_some s.until r.events)
+text_some (e ∷ es) s r = behind_some (shown s r (ticks_before e.time r.ticks)) _ (next_some (r.events == s.limit) s e (text_from es s (reached s r e)))
+
+run_text_some : (s : Scene) (sites : List SiteState) → run_text s sites ≢ []
+run_text_some s sites = text_some (events_of s sites) s (start s sites)
+
 -- a run ends as its answer wants
 pub run_ends : {T : Type 0} (r : Result T Stop) (s : Scene) (sites : List SiteState) (old new : Option (List ℕ)) (f n : ℕ) → IsLimited r s sites → RunGains r (run_text s sites) old new → (IsErrOf r stop.Write → Rose f n) → Answered (by_limit (nat_lt s.limit (length (events_of s sites))) s.limit (run_text s sites)) (run_ending s.limit r) old new f n
 run_ends (Ok x) s sites old new f n h g w = ends_whole _ s.limit (run_text s sites) old new f n (grind (arith, nat_tests)) g
 run_ends (Err stop.Limit) s sites old new f n h g w = ends_limited _ s.limit (run_text s sites) old new f n (grind (arith, nat_tests)) g
-run_ends (Err stop.Write) s sites old new f n h g w = ends_stopped _ s.limit (run_text s sites) old new f n g (w refl)
+run_ends (Err stop.Write) s sites old new f n h g w = ends_stopped _ s.limit (run_text s sites) old new f n (run_text_some s sites) g (w refl)
 run_ends (Err stop.Memory) s sites old new f n h g w = ends_wanting _ s.limit (run_text s sites) old new f n g
 
 -- the same where the scene and the surface are known by other names

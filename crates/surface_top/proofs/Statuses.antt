@@ -2,7 +2,7 @@
 use Rattle.std.proofs.Common.{rules, ◌≡◌, ◌⊎◌, inl, inr, ℕ, Bool, true, false, List, [], ◌∷◌, ◌++◌, Option, refl, sym, ap}
 use Rattle.std.specs.Prelude.{codes}
 use Rattle.surf_outside.specs.Known.{AppendsPrefix}
-use Rattle.surf_outside.proofs.Gains.{prefix_whole}
+use Rattle.surf_outside.proofs.LawLemmas.{prefix_whole}
 use Rattle.surf_kinds.specs.declared.status.Status.{Status}
 use Rattle.surf_kinds.specs.declared.status.Status.TheVariants as status
 use Rattle.surface_top.specs.declared.ending.Ending.{Ending}
@@ -24,8 +24,8 @@ status_is (ending.BadManifest fault) a h = own_or (is_over fault.kind) a (ap own
 status_is (ending.BadCircuit fault) a h = own_or (are_too_many fault.kind) a (ap own_status h)
 status_is (ending.WrongInputs expected given) a h = ap own_status h
 status_is (ending.EventLimit limit) a h = ap own_status h.1
-status_is ending.ReadFault a h = h
-status_is ending.WriteFault a h = h
+status_is ending.ReadFault a h = tt
+status_is ending.WriteFault a h = tt
 status_is ending.Memory a h = tt
 
 noted : (over : Bool) (a b : Answer) → answer_note a ≡ answer_note b → message (limit_or_faulty over) a ≡ message (limit_or_faulty over) b

@@ -1,19 +1,19 @@
 -- What the program answers to words and bytes.
-use Rattle.std.specs.Prelude.{ℕ, List, [], length, Option, Some, None, Result, Ok, Err, unwrap_or, nat_lt, ◌==◌, if◌then◌else◌, slice_index_or}
-use Rattle.std.specs.Option.{option_map, option_map_or}
+use Rattle.std.specs.Prelude.{ℕ, List, [], length, Bool, false, ◌&&◌, Option, Some, None, Result, Ok, Err, unwrap_or, nat_lt, ◌==◌, if◌then◌else◌, slice_index_or}
+use Rattle.std.specs.Option.{option_map_or}
 use Rattle.lattice.specs.Surface.{first_surface}
 use Rattle.manifest_read.specs.declared.manifest.Manifest.{Manifest}
 use Rattle.manifest_read.specs.declared.fault.ManifestFault.{ManifestFault}
 use Rattle.manifest_read.specs.Manifest.{manifest_of}
-use Rattle.manifest_read.specs.Canon.{canonical_text}
+use Rattle.manifest_write.specs.Canon.{canonical_text}
 use Rattle.circuit_text.specs.declared.fault.CircuitFault.{CircuitFault}
 use Rattle.circuit_text.specs.Circuits.{NetList, circuit_in}
 use Rattle.circuit_text.specs.Values.{input_count}
-use Rattle.surface_words.specs.declared.commands.Program.TheVariants.{Surface}
+use Rattle.surface_words.specs.declared.commands.Program.{Program}
 use Rattle.surface_words.specs.declared.words.Words.{Words}
 use Rattle.surface_words.specs.declared.words.Words.TheVariants.{Check, Print, Run, Value}
 use Rattle.surface_words.specs.FirstWrong.{first_wrong}
-use Rattle.surface_words.specs.Reading.{reading}
+use Rattle.surface_words.specs.Reading.{reading, reads}
 use Rattle.surface_top.specs.Checks.{check_text}
 use Rattle.surface_top.specs.RunText.{Scene, events_of, run_text}
 use Rattle.surface_top.specs.ValueText.{bits_of, value_text}
@@ -62,25 +62,29 @@ by_circuit f (Err fault) = BadCircuit fault
 abbrev pub inputs_in : Option ℕ → List (List ℕ) → List ℕ
 inputs_in index words = option_map_or (λ i. slice_index_or words i []) index []
 
--- the answer to what the words say, and the words themselves
+-- the answer to accepted words, by what they say, and to the bytes that they are given
 abbrev pub answer_within : Words → List (List ℕ) → List ℕ → Answer
 answer_within Check words bytes = by_manifest (λ m. Text (check_text m)) (manifest_of bytes)
 answer_within Print words bytes = by_manifest (λ m. Text (canonical_text m)) (manifest_of bytes)
 answer_within (Run workers seed until samples limit) words bytes = by_manifest (λ m. run_answer (scene_of seed until samples limit m) m) (manifest_of bytes)
 answer_within (Value inputs) words bytes = by_circuit (value_answer (inputs_in inputs words)) (circuit_in bytes)
 
--- at most 67,108,864 bytes are read
+-- a command that reads takes at most 67,108,864 bytes
+abbrev pub is_too_long : Words → List ℕ → Bool
+is_too_long command bytes = reads command && nat_lt 67108864 (length bytes)
+
 abbrev pub answer_to : List (List ℕ) → Words → List ℕ → Answer
-answer_to words said bytes = if nat_lt 67108864 (length bytes) then TooLong else answer_within said words bytes
+answer_to words command bytes = if is_too_long command bytes then TooLong else answer_within command words bytes
 
--- wrong words have an answer whatever the source holds, others where it tells its bytes
-abbrev pub known_by : Option Words → List (List ℕ) → Option (List ℕ) → Option Answer
-known_by None words bytes = option_map WrongWord (first_wrong Surface words)
-known_by (Some said) words bytes = option_map (answer_to words said) bytes
+-- The answer of a program to words and to the bytes of its source. Words that aren't accepted have a first wrong one,
+-- which is the answer whatever the bytes are; and so has a command that reads nothing one answer whatever they are.
+abbrev pub specified_answer : Program → List (List ℕ) → List ℕ → Answer
+specified_answer program words bytes =
+    option_map_or (λ command. answer_to words command bytes) (reading program words) (WrongWord (unwrap_or (first_wrong program words) 0))
 
--- the answer, where it is known
-abbrev pub known : List (List ℕ) → Option (List ℕ) → Option Answer
-known words bytes = known_by (reading Surface words) words bytes
+-- whether the words are accepted and their command reads
+abbrev pub reads_source : Program → List (List ℕ) → Bool
+reads_source program words = option_map_or reads (reading program words) false
 
 -- the text that an answer has for the sink
 abbrev pub text_of : Answer → List ℕ

@@ -1,7 +1,7 @@
 -- What `check` says of a manifest.
 use Rattle.std.specs.Prelude.{ℕ, List, [], ◌∷◌, ◌++◌, length, decimal, codes}
 use Rattle.manifest_read.specs.declared.manifest.Manifest.{Manifest}
-use Rattle.manifest_read.specs.Canon.{kind_text, bool_text}
+use Rattle.manifest_read.specs.Settings.{kind_text, bool_text}
 
 -- the lattice: <rows> <cols> <lattice> <wrap>
 unfoldable pub lattice_text : ℕ → ℕ → List ℕ → List ℕ → List ℕ

@@ -1,19 +1,24 @@
 -- How a call ends, before its message is written.
-use Rattle.std.specs.Prelude.{◌≡◌, ℕ, List, [], Option, None, Result, Ok, Err, ⊤, IsSome}
+use Rattle.std.specs.Prelude.{◌≡◌, ◌≤◌, ◌^◌, ℕ, List, [], Option, None, Result, Ok, Err, ⊤, IsSome, IfSome}
 use Rattle.surf_outside.specs.Causes.{Rose}
 use Rattle.surf_kinds.specs.declared.status.Status.{Status}
 use Rattle.surf_kinds.specs.declared.status.Status.TheVariants as status
 use Rattle.surface_words.specs.declared.words.Words.{Words}
 use Rattle.manifest_read.specs.declared.manifest.Manifest.{Manifest}
 use Rattle.manifest_read.specs.declared.fault.ManifestFault.{ManifestFault}
+use Rattle.manifest_write.specs.Canon.{canonical_text}
 use Rattle.circuit_text.specs.declared.fault.CircuitFault.{CircuitFault}
 use Rattle.circuit_text.specs.Circuits.{NetList}
+use Rattle.surface_top.specs.declared.call.ManifestJob.{ManifestJob}
+use Rattle.surface_top.specs.declared.call.ManifestJob.TheVariants as job
+use Rattle.surface_top.specs.declared.run.RunOptions.{RunOptions}
 use Rattle.surface_top.specs.declared.pages.Stop.{Stop}
 use Rattle.surface_top.specs.declared.pages.Stop.TheVariants as stop
 use Rattle.surface_top.specs.declared.ending.Ending.{Ending}
 use Rattle.surface_top.specs.declared.ending.Ending.TheVariants as ending
-use Rattle.surface_top.specs.Answer.{Answer, WrongWord, TooLong, BadManifest, BadCircuit, WrongInputs, EventLimit, Text}
-use Rattle.surface_top.specs.Outcome.{own_status, IsRead, HasText, OutGains}
+use Rattle.surface_top.specs.Answer.{Answer, WrongWord, TooLong, BadManifest, BadCircuit, WrongInputs, EventLimit, Text, run_answer, scene_of}
+use Rattle.surface_top.specs.Checks.{check_text}
+use Rattle.surface_top.specs.Outcome.{own_status, HasText, OutGains}
 
 -- the answer of an ending, but for its text
 abbrev pub answer_by : Ending → Answer
@@ -43,7 +48,7 @@ IsEndingOf (ending.BadManifest fault) a = a ≡ BadManifest fault
 IsEndingOf (ending.BadCircuit fault) a = a ≡ BadCircuit fault
 IsEndingOf (ending.WrongInputs expected given) a = a ≡ WrongInputs expected given
 IsEndingOf (ending.EventLimit limit) a = (text : List ℕ) × (a ≡ EventLimit limit text)
-IsEndingOf ending.ReadFault a = IsRead a
+IsEndingOf ending.ReadFault a = ⊤
 IsEndingOf ending.WriteFault a = HasText a
 IsEndingOf ending.Memory a = ⊤
 
@@ -54,10 +59,35 @@ pub record Answered (a : Answer) (e : Ending) (old new : Option (List ℕ)) (fau
   pub write : e ≡ ending.WriteFault → Rose faults now
   pub read : e ≡ ending.ReadFault → ⊥
 
+-- The ending of a call, by the answer that each list of bytes has: there are bytes, those of the source where it tells
+-- them, of whose answer it is the ending, and the sink gained what that answer says.
+pub record EndsAs (answer : List ℕ → Answer) (e : Ending) (unread : Option (List ℕ)) (old new : Option (List ℕ)) : Type 0 where
+  pub bytes : List ℕ
+  pub agrees : IfSome unread (λ all. bytes ≡ all)
+  pub is_of : IsEndingOf e (answer bytes)
+  pub gains : OutGains (status_of e) (answer bytes) old new
+
 -- wrong words are answered; right ones never
 abbrev pub IsWordsAnswer : Ending → Option Words → Type 0
-IsWordsAnswer (ending.WrongWord index) said = said ≡ None
-IsWordsAnswer e said = IsSome said
+IsWordsAnswer (ending.WrongWord index) command = command ≡ None
+IsWordsAnswer e command = IsSome command
+
+-- what is done with a manifest, as an answer
+abbrev pub manifest_answer : ManifestJob → Manifest → Answer
+manifest_answer job.Check m = Text (check_text m)
+manifest_answer job.Print m = Text (canonical_text m)
+manifest_answer (job.Run options) m = run_answer (scene_of options.seed options.until options.samples options.limit m) m
+
+-- the bounds of the options of a run
+pub record HasBounds (options : RunOptions) : Type 0 where
+  pub until : IfSome options.until (λ ticks. ticks ≤ 10 ^ 15)
+  pub samples : options.samples ≤ 10000
+  pub limit : options.limit ≤ 10000000
+
+abbrev pub IsWithin : ManifestJob → Type 0
+IsWithin job.Check = ⊤
+IsWithin job.Print = ⊤
+IsWithin (job.Run options) = HasBounds options
 
 -- the ending that stands for a text without a manifest
 abbrev pub IsNoManifest : Ending → Result Manifest ManifestFault → Type 0

@@ -8,3 +8,4 @@ pub mod Pages
 pub mod Ticks
 pub mod Writing
 pub mod Stops
+pub mod Cuts

@@ -1,12 +1,15 @@
 -- The status of the program, and what stands in its sinks.
-use Rattle.std.specs.Prelude.{◌≡◌, ℕ, Bool, true, false, if◌then◌else◌, List, [], ◌∷◌, ◌++◌, Option, ⊤, codes, decimal}
+use Rattle.std.specs.Prelude.{◌≡◌, ◌≢◌, ◌⊎◌, ℕ, Bool, true, false, if◌then◌else◌, List, [], ◌∷◌, ◌++◌, take, Option, IfSome, ⊤, codes, decimal}
 use Rattle.std.specs.Io.KnownBytes.{Appends}
+use Rattle.surf_outside.specs.Causes.{Rose}
 use Rattle.surf_outside.specs.Known.{AppendsPrefix}
 use Rattle.surf_kinds.specs.declared.status.Status.{Status}
 use Rattle.surf_kinds.specs.declared.status.Status.TheVariants as status
 use Rattle.manifest_read.specs.declared.fault.ManifestFault.{ManifestFault}
 use Rattle.manifest_read.specs.declared.fault.ManifestKind.{ManifestKind}
 use Rattle.manifest_read.specs.declared.fault.ManifestKind.TheVariants as manifest
+use Rattle.manifest_read.specs.Faults.{manifest_kind_text, unit_text}
+use Rattle.circuit_text.specs.Faults.{kind_name}
 use Rattle.circuit_text.specs.declared.fault.CircuitFault.{CircuitFault}
 use Rattle.circuit_text.specs.declared.fault.CircuitKind.{CircuitKind}
 use Rattle.circuit_text.specs.declared.fault.CircuitKind.TheVariants as circuit
@@ -43,22 +46,10 @@ own_status (WrongInputs expected given) = status.Faulty
 own_status (EventLimit limit text) = status.Limit
 own_status (Text text) = status.Done
 
--- the words were accepted
-abbrev pub IsRead : Answer → Type 0
-IsRead (WrongWord index) = ⊥
-IsRead a = ⊤
-
--- the answer has a text for the sink
-abbrev pub HasText : Answer → Type 0
-HasText (EventLimit limit text) = ⊤
-HasText (Text text) = ⊤
-HasText a = ⊥
-
--- the status of an answer. A fault of the outside may come in its place, of reading where the words were accepted and of
--- writing where there is a text, and so may want of memory.
+-- the status of an answer. A fault of reading or writing may come in its place, and so may running out of memory.
 abbrev pub IsStatusOf : Status → Answer → Type 0
-IsStatusOf status.ReadFault a = IsRead a
-IsStatusOf status.WriteFault a = HasText a
+IsStatusOf status.ReadFault a = ⊤
+IsStatusOf status.WriteFault a = ⊤
 IsStatusOf status.Memory a = ⊤
 IsStatusOf s a = own_status a ≡ s
 
@@ -71,46 +62,11 @@ OutGains s a old new = Appends old new (text_of a)
 
 -- Messages
 
-abbrev pub manifest_kind_text : ManifestKind → List ℕ
-manifest_kind_text manifest.NotUtf8 = codes "NotUtf8"
-manifest_kind_text manifest.UnknownSection = codes "UnknownSection"
-manifest_kind_text manifest.SectionTwice = codes "SectionTwice"
-manifest_kind_text manifest.SectionOpen = codes "SectionOpen"
-manifest_kind_text manifest.SectionMissing = codes "SectionMissing"
-manifest_kind_text manifest.BadSetting = codes "BadSetting"
-manifest_kind_text manifest.SettingTwice = codes "SettingTwice"
-manifest_kind_text manifest.BadSeed = codes "BadSeed"
-manifest_kind_text manifest.BadDuration = codes "BadDuration"
-manifest_kind_text manifest.BadLattice = codes "BadLattice"
-manifest_kind_text manifest.BadWrap = codes "BadWrap"
-manifest_kind_text manifest.BadRate = codes "BadRate"
-manifest_kind_text manifest.BadRule = codes "BadRule"
-manifest_kind_text manifest.BadArity = codes "BadArity"
-manifest_kind_text manifest.RaggedRow = codes "RaggedRow"
-manifest_kind_text manifest.BadName = codes "BadName"
-manifest_kind_text manifest.NoSites = codes "NoSites"
-manifest_kind_text manifest.TooManySites = codes "TooManySites"
-manifest_kind_text manifest.TooManyRules = codes "TooManyRules"
-manifest_kind_text manifest.TooManySpecies = codes "TooManySpecies"
-
--- faults have the number of a line; of a text that isn't UTF-8 it is a number of bytes
-abbrev pub unit_text : ManifestKind → List ℕ
-unit_text manifest.NotUtf8 = codes "byte"
-unit_text kind = codes "line"
-
-abbrev pub circuit_kind_text : CircuitKind → List ℕ
-circuit_kind_text circuit.BadLine = codes "BadLine"
-circuit_kind_text circuit.UnknownNet = codes "UnknownNet"
-circuit_kind_text circuit.NetTwice = codes "NetTwice"
-circuit_kind_text circuit.NetLater = codes "NetLater"
-circuit_kind_text circuit.NoOutput = codes "NoOutput"
-circuit_kind_text circuit.TooManyNets = codes "TooManyNets"
-
 abbrev pub manifest_note : ManifestFault → List ℕ
 manifest_note f = codes "manifest " ++ manifest_kind_text f.kind ++ codes " " ++ unit_text f.kind ++ codes " " ++ decimal f.at ++ 10 ∷ []
 
 abbrev pub circuit_note : CircuitFault → List ℕ
-circuit_note f = codes "circuit " ++ circuit_kind_text f.kind ++ codes " line " ++ decimal f.line ++ 10 ∷ []
+circuit_note f = codes "circuit " ++ kind_name f.kind ++ codes " line " ++ decimal f.line ++ 10 ∷ []
 
 abbrev pub inputs_note : ℕ → ℕ → List ℕ
 inputs_note expected given = codes "circuit WrongInputs " ++ decimal expected ++ codes " " ++ decimal given ++ 10 ∷ []
@@ -136,3 +92,68 @@ message s a = answer_note a
 pub record Gains (Faulted : Type 0) (text : List ℕ) (old new : Option (List ℕ)) : Type 0 where
   pub prefix : AppendsPrefix old new text
   pub whole : (Faulted → ⊥) → Appends old new text
+
+-- what the notes have gained: with status 0 the lines that go there, with the others the message; where writing failed
+-- or memory ran out, some of the lines may stand before it
+abbrev pub NotesGain : Type 0 → Status → Answer → List ℕ → Option (List ℕ) → Option (List ℕ) → Type 0
+NotesGain Faulted status.Done a lines old new = Appends old new lines
+NotesGain Faulted status.WriteFault a lines old new = (n : ℕ) × Gains Faulted (take n lines ++ message status.WriteFault a) old new
+NotesGain Faulted status.Memory a lines old new = (n : ℕ) × Gains Faulted (take n lines ++ message status.Memory a) old new
+NotesGain Faulted s a lines old new = Gains Faulted (message s a) old new
+
+-- What is seen of the outside
+
+-- of a source: the bytes that it has left, where it tells them, and how many faults it had
+pub record SourceView : Type 0 where
+  pub unread : Option (List ℕ)
+  pub faults : ℕ
+
+-- of a sink: the bytes that it holds, where it tells them, and how many faults it had
+pub record SinkView : Type 0 where
+  pub written : Option (List ℕ)
+  pub faults : ℕ
+
+-- of the source, the sink and the notes of a call
+pub record Outside : Type 0 where
+  pub source : SourceView
+  pub out : SinkView
+  pub notes : SinkView
+
+abbrev pub source_view : Option (List ℕ) → ℕ → SourceView
+source_view unread faults = record { unread = unread; faults = faults }
+
+abbrev pub sink_view : Option (List ℕ) → ℕ → SinkView
+sink_view written faults = record { written = written; faults = faults }
+
+abbrev pub outside : SourceView → SinkView → SinkView → Outside
+outside source out notes = record { source = source; out = out; notes = notes }
+
+-- Outcomes
+
+-- the answer has a text for the sink
+abbrev pub HasText : Answer → Type 0
+HasText a = text_of a ≢ []
+
+-- there are lines for the notes, which go there beside a whole text alone
+abbrev pub HasLines : Answer → List ℕ → Type 0
+HasLines (Text text) lines = lines ≢ []
+HasLines a lines = ⊥
+
+-- why a write failed: the sink had a fault, and there is a text for it; or the notes had one, and there are lines for them
+abbrev pub HasWriteCause : Answer → List ℕ → Outside → Outside → Type 0
+HasWriteCause a lines old new =
+    (HasText a × Rose old.out.faults new.out.faults) ⊎ (HasLines a lines × Rose old.notes.faults new.notes.faults)
+
+-- The outcome of a call, by the answer that each list of bytes has, and the lines that go to the notes with status 0:
+-- there are bytes, those of the source where it tells them, and what the call leaves is what their answer says.
+pub record IsOutcome (answer : List ℕ → Answer) (lines : List ℕ) (result : Status) (old new : Outside) : Type 0 where
+  pub bytes : List ℕ
+  pub agrees : IfSome old.source.unread (λ unread. bytes ≡ unread)
+  pub is_of : IsStatusOf result (answer bytes)
+  pub out_gains : OutGains result (answer bytes) old.out.written new.out.written
+  pub notes_gain : NotesGain (Rose old.notes.faults new.notes.faults) result (answer bytes) lines old.notes.written new.notes.written
+  pub cause : result ≡ status.WriteFault → HasWriteCause (answer bytes) lines old new
+  -- where no object had a fault, the status is the answer's own, or memory ran out
+  pub complete : (Rose old.source.faults new.source.faults → ⊥) → (Rose old.out.faults new.out.faults → ⊥)
+      → (HasLines (answer bytes) lines → Rose old.notes.faults new.notes.faults → ⊥)
+      → (result ≡ own_status (answer bytes)) ⊎ (result ≡ status.Memory)

@@ -13,17 +13,17 @@ pub record Waiting : Type 0 where
 
 -- what the sink holds, its count of faults, and the bytes that haven't gone out yet
 pub record Page : Type 0 where
-  pub held : Option (List ℕ)
+  pub written : Option (List ℕ)
   pub faults : ℕ
   pub pending : List ℕ
 
 abbrev pub page : Option (List ℕ) → ℕ → Waiting → Page
-page held faults w = record { held = held; faults = faults; pending = w.bytes }
+page written faults w = record { written = written; faults = faults; pending = w.bytes }
 
 -- a text was written: the first of what pended and of the text were sent, and the rest pends
 pub record Wrote (old new : Page) (text : List ℕ) : Type 0 where
   pub sent : List ℕ
-  pub gone : Appends old.held new.held sent
+  pub gone : Appends old.written new.written sent
   pub rest : old.pending ++ text ≡ sent ++ new.pending
   pub later : old.faults ≤ new.faults
 
@@ -35,7 +35,7 @@ IsFailure stops.Memory old new = Unit {0}
 
 -- a prefix of what pended and of the text went out, and then the outside or memory failed
 pub record Stopped (old new : Page) (text : List ℕ) (stop : Stop) : Type 0 where
-  pub prefix : AppendsPrefix old.held new.held (old.pending ++ text)
+  pub prefix : AppendsPrefix old.written new.written (old.pending ++ text)
   pub later : old.faults ≤ new.faults
   pub cause : IsFailure stop old.faults new.faults
 

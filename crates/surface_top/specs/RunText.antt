@@ -8,7 +8,7 @@ use Rattle.plan.specs.Network.{Network}
 use Rattle.plan.specs.History.{history}
 use Rattle.trace_text.specs.Lines.{event_text, surface_text, end_text, limit_text}
 
--- what is run and told: the names of the species, the rules on a lattice, the duration in ticks, how many surfaces are
+-- what is run and written: the names of the species, the rules on a lattice, the duration in ticks, how many surfaces are
 -- shown, and how many events at most
 pub record Scene : Type 0 where
   pub names : List (List ℕ)
@@ -50,7 +50,7 @@ reached s r e = record {
 }
 
 -- The text of the events that follow. Before each stand the surfaces of the sampling ticks before its time; an event
--- that is one more than the limit isn't told, and the text ends there.
+-- that is one more than the limit isn't written, and the text ends there.
 unfoldable pub text_from : List Event → Scene → Reached → List ℕ
 text_from [] s r = shown s r r.ticks ++ end_text s.until r.events
 text_from (e ∷ es) s r =
@@ -61,7 +61,7 @@ abbrev pub start : Scene → List SiteState → Reached
 start s sites = record { sites = sites; events = 0; ticks = sampling_ticks s.until s.samples }
 
 abbrev pub events_of : Scene → List SiteState → List Event
-events_of s sites = history s.network.lattice s.network.seed s.network.rules s.until sites
+events_of s sites = history s.network s.until sites
 
 -- the run text on a first surface
 abbrev pub run_text : Scene → List SiteState → List ℕ

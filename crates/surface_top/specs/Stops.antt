@@ -7,7 +7,7 @@ use Rattle.surface_top.specs.declared.pages.Stop.{Stop}
 use Rattle.surface_top.specs.declared.pages.Stop.TheVariants as stops
 use Rattle.surface_top.specs.RunText.{Scene, events_of}
 
--- a run is told to its end only where it has at most as many events as the limit, and is limited only where it has more
+-- a run is written to its end only where it has at most as many events as the limit, and is limited only where it has more
 abbrev pub IsLimited : {T : Type 0} → Result T Stop → Scene → List SiteState → Type 0
 IsLimited (Ok x) s sites = length (events_of s sites) ≤ s.limit
 IsLimited (Err stops.Limit) s sites = s.limit < length (events_of s sites)

@@ -1,12 +1,8 @@
--- How far a writer has come in the text of a run, and what it has told when it stops.
-use Rattle.std.specs.Prelude.{◌≡◌, ℕ, ◌+◌, ◌^◌, ◌<◌, ◌≤◌, List, [], ◌∷◌, ◌++◌, length, All, Option, Some, Result, Ok, Err}
-use Rattle.surf_kinds.specs.declared.event.Event.{Event}
-use Rattle.surf_kinds.specs.declared.site.SiteState.{SiteState}
-use Rattle.lattice.specs.Surface.{after}
+-- How far a writer has come in the text of a run, and what it has written when it stops.
+use Rattle.std.specs.Prelude.{◌≡◌, ℕ, ◌+◌, ◌^◌, ◌<◌, ◌≤◌, List, [], ◌∷◌, ◌++◌, length, All, Result, Ok, Err}
 use Rattle.plan.specs.Network.{Network}
-use Rattle.plan.specs.History.{due}
-use Rattle.surface_state.specs.Standing.{Standing}
-use Rattle.one_engine.specs.State.{State, LeavesWithin, fired}
+use Rattle.surface_state.specs.SurfaceView.{SurfaceView}
+use Rattle.one_engine.specs.State.{LeavesWithin}
 use Rattle.one_engine.specs.Running.{IsSettled}
 use Rattle.surface_top.specs.declared.pages.Stop.{Stop}
 use Rattle.surface_top.specs.declared.pages.Stop.TheVariants as stops
@@ -16,7 +12,7 @@ use Rattle.surface_top.specs.declared.writer.Writer.{Writer}
 use Rattle.surface_top.specs.Pages.{Page, Wrote, Sends}
 use Rattle.surface_top.specs.RunText.{Scene, Reached, sampling_ticks, text_from, events_of}
 
--- what is run and told, of these names and rules
+-- what is run and written, of these names and rules
 abbrev pub scene : List (List ℕ) → Network → Span → Scene
 scene names network span = record { names = names; network = network; until = span.until; samples = span.samples; limit = span.limit }
 
@@ -27,22 +23,8 @@ scene_of t = scene t.names.now t.plan.now t.span
 abbrev pub reached_of : Writer → Reached
 reached_of w = record { sites = w.surface.sites; events = w.events; ticks = w.ticks }
 
--- the next event of a surface, within the duration
-abbrev pub next_due : Network → ℕ → List SiteState → Option Event
-next_due n until sites = due n.lattice n.seed n.rules until sites
-
--- these are the next events of a surface, one after the other
-abbrev pub AreNext : Network → ℕ → List SiteState → List Event → Type 0
-AreNext n until sites [] = Unit {0}
-AreNext n until sites (e ∷ es) = (next_due n until sites ≡ Some e) × AreNext n until (after n.lattice n.rules sites e) es
-
--- the state of an engine that has fired these events
-abbrev pub fired_all : State → List Event → State
-fired_all s [] = s
-fired_all s (e ∷ es) = fired_all (fired s e) es
-
--- nothing was told of the run of this surface
-pub record Begins (span : Span) (first : Standing) (w : Writer) : Type 0 where
+-- nothing was written of the run of this surface
+pub record Begins (span : Span) (first : SurfaceView) (w : Writer) : Type 0 where
   pub surface : w.surface ≡ first
   pub tally : w.tally ≡ record { limit = span.limit; admitted = 0 }
   pub events : w.events ≡ 0
@@ -54,26 +36,26 @@ pub record Begins (span : Span) (first : Standing) (w : Writer) : Type 0 where
 pub record IsReady (s : Scene) (w : Writer) : Type 0 where
   pub long : s.until ≤ 10 ^ 15
   pub lattice : w.surface.lattice ≡ s.network.lattice
-  pub kinds : w.surface.kinds ≡ length s.names
-  pub species : All (LeavesWithin w.surface.kinds) s.network.rules
+  pub species_count : w.surface.species_count ≡ length s.names
+  pub species : All (LeavesWithin w.surface.species_count) s.network.rules
   pub settled : All IsSettled w.surface.sites
   pub tally : w.tally ≡ record { limit = s.limit; admitted = w.events }
   pub within : w.events ≤ s.limit
   pub ticks : All (λ tick. tick ≤ s.until) w.ticks
 
--- what is still to be told: the text of the events that the surface has before it
-abbrev pub left : Scene → Reached → List ℕ
-left s r = text_from (events_of s r.sites) s r
+-- what is still to be written: the text of the events that the surface has before it
+abbrev pub remaining_text : Scene → Reached → List ℕ
+remaining_text s r = text_from (events_of s r.sites) s r
 
 -- the number of events in all
 abbrev pub total : Scene → Reached → ℕ
 total s r = r.events + length (events_of s r.sites)
 
--- a part of what was to be told was written, and the rest is still to be told
-pub record Told (s : Scene) (r q : Reached) (old new : Page) : Type 0 where
+-- a part of what was to be written was written, and the rest is still to be written
+pub record Progress (s : Scene) (r q : Reached) (old new : Page) : Type 0 where
   pub text : List ℕ
   pub wrote : Wrote old new text
-  pub rest : left s r ≡ text ++ left s q
+  pub rest : remaining_text s r ≡ text ++ remaining_text s q
   pub same_total : total s r ≡ total s q
 
 -- whether the run had more events than the limit
@@ -83,12 +65,12 @@ EndsWith s r (Err stops.Limit) = s.limit < total s r
 EndsWith s r (Err stops.Write) = Unit {0}
 EndsWith s r (Err stops.Memory) = Unit {0}
 
--- what stands when nothing more is told
+-- what stands when nothing more is written
 pub record Ends {T : Type 0} (s : Scene) (r : Reached) (old new : Page) (result : Result T Stop) : Type 0 where
-  pub sends : Sends old new (left s r) result
+  pub sends : Sends old new (remaining_text s r) result
   pub limited : EndsWith s r result
 
--- a part was told and the rest can be told, or nothing more is told
-abbrev pub Tells : {T : Type 0} → Scene → Reached → Reached → Page → Page → Result T Stop → Type 0
-Tells s r q old new (Ok x) = Told s r q old new
-Tells {T} s r q old new (Err stop) = Ends {T = T} s r old new (Err stop)
+-- a part was written and the rest can be written, or nothing more is written
+abbrev pub Advances : {T : Type 0} → Scene → Reached → Reached → Page → Page → Result T Stop → Type 0
+Advances s r q old new (Ok x) = Progress s r q old new
+Advances {T} s r q old new (Err stop) = Ends {T = T} s r old new (Err stop)

@@ -6,41 +6,25 @@ ghost use Rattle.surface_top.specs.Checks.{check_text, lattice_text, sizes_text}
 ghost use Rattle.surface_top.specs.Ending.{Answered};
 ghost use Rattle.circuit_text.specs.Values.{input_count};
 ghost use Rattle.surface_top.specs.ValueText.{bits_of, bit_text, value_line, value_text, outputs_text};
-ghost use Rattle.manifest_read.specs.Canon.{canonical_text, kind_text, bool_text};
+ghost use Rattle.manifest_write.specs.Canon.{canonical_text};
 ghost use Rattle.manifest_read.specs.Manifest.{IsValid};
 
 use crate::buffer::Buffer;
 use crate::ending::Ending;
 use circuit_text::Circuit;
-use lattice::Kind;
-use manifest_read::Manifest;
+use manifest_read::{Manifest, bool_name, kind_name};
 use manifest_write::write_manifest;
 use std::alloc::{AllocError, Global};
 use surf_outside::{Failed, Sink, put_all};
 
 /// Writes a text to its end.
 fn put_text<O: Sink>(out: &mut O, text: &[u8]) -> Ending
-    ensures { Answered (Text text.now) result (O.held out.old) (O.held out.new) (O.faults out.old) (O.faults out.new) }
+    ensures { Answered (Text text.now) result (O.written out.old) (O.written out.new) (O.faults out.old) (O.faults out.new) }
 {
     match put_all(out, text) {
         Ok(()) => Ending::Done,
         Err(Failed) => Ending::WriteFault,
     }
-}
-
-fn kind_name(kind: Kind) -> &'static str
-    ensures { result.now ≡ kind_text kind }
-{
-    match kind {
-        Kind::Square => "square",
-        Kind::Hex => "hex",
-    }
-}
-
-fn bool_name(value: bool) -> &'static str
-    ensures { result.now ≡ bool_text value }
-{
-    if value { "true" } else { "false" }
 }
 
 /// The front of what `check` says: the lattice.
@@ -80,7 +64,7 @@ fn check_line(alloc: Global, manifest: &Manifest) -> Result<String, AllocError>
 
 /// Writes what `check` says of a manifest.
 pub(crate) fn check<O: Sink>(alloc: Global, manifest: &Manifest, out: &mut O) -> Ending
-    ensures { Answered (Text (check_text manifest.now)) result (O.held out.old) (O.held out.new) (O.faults out.old) (O.faults out.new) }
+    ensures { Answered (Text (check_text manifest.now)) result (O.written out.old) (O.written out.new) (O.faults out.old) (O.faults out.new) }
 {
     match check_line(alloc, manifest) {
         Ok(line) => put_text(out, line.as_bytes()),
@@ -91,7 +75,7 @@ pub(crate) fn check<O: Sink>(alloc: Global, manifest: &Manifest, out: &mut O) ->
 /// Writes the canonical text of a manifest.
 pub(crate) fn print<O: Sink>(alloc: Global, manifest: &Manifest, out: &mut O) -> Ending
     requires { IsValid manifest.now }
-    ensures { Answered (Text (canonical_text manifest.now)) result (O.held out.old) (O.held out.new) (O.faults out.old) (O.faults out.new) }
+    ensures { Answered (Text (canonical_text manifest.now)) result (O.written out.old) (O.written out.new) (O.faults out.old) (O.faults out.new) }
 {
     let mut text = Buffer::new(alloc);
     match write_manifest(manifest, &mut text) {
@@ -155,7 +139,7 @@ fn value_lines_of(alloc: Global, circuit: &Circuit, word: &[u8]) -> Result<Vec<u
 
 /// Writes the values of the outputs, for a word with a bit of each input.
 pub(crate) fn value<O: Sink>(alloc: Global, circuit: &Circuit, word: &str, out: &mut O) -> Ending
-    ensures { Answered (value_answer word.now circuit.now) result (O.held out.old) (O.held out.new) (O.faults out.old) (O.faults out.new) }
+    ensures { Answered (value_answer word.now circuit.now) result (O.written out.old) (O.written out.new) (O.faults out.old) (O.faults out.new) }
 {
     let expected = circuit.input_count();
     let given = word.len() as u64;

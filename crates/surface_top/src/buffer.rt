@@ -50,7 +50,7 @@ impl Buffer {
 }
 
 impl Sink for Buffer {
-    ghost held = { λ b. Some b.bytes };
+    ghost written = { λ b. Some b.bytes };
 
     ghost faults = { λ b. b.faults };
 

@@ -1,24 +1,27 @@
-//! From words and a source to what is written and how the call ended.
+//! The top call: from words and a source to what is written and a status.
 
-ghost use Rattle.std.specs.Prelude.{◌≡◌, ◌≤◌, ◌^◌, None, Ok, map, length, string_bytes, IfOk, IfErr, IfSome};
+ghost use Rattle.std.specs.Prelude.{◌≡◌, ◌≤◌, ◌⊎◌, true, false, [], None, Ok, map, length, string_bytes, IfOk, IfErr};
 ghost use Rattle.std.specs.Io.KnownBytes.{IsAtEnd};
 ghost use Rattle.surf_outside.specs.Causes.{Rose};
 ghost use Rattle.manifest_read.specs.Manifest.{manifest_of, IsValid};
 ghost use Rattle.manifest_read.specs.Sound.{IsSound};
 ghost use Rattle.circuit_text.specs.Circuits.{circuit_in};
 ghost use Rattle.surface_words.specs.declared.commands.Program.TheVariants.{Surface};
-ghost use Rattle.surface_words.specs.Reading.{reading, IsInRange};
-ghost use Rattle.surface_top.specs.Answer.{answer_within, answer_to, inputs_in, known, by_manifest, by_circuit, run_answer, scene_of};
-ghost use Rattle.surface_top.specs.Ending.{status_of, IsEndingOf, IsWordsAnswer, IsNoManifest, IsNoCircuit, IsAccepted, Answered};
-ghost use Rattle.surface_top.specs.Outcome.{OutGains};
+ghost use Rattle.surface_words.specs.Reading.{reading, reads, IsInRange};
+ghost use Rattle.surface_top.specs.Answer.{answer_within, answer_to, specified_answer, reads_source, inputs_in, by_manifest, by_circuit, value_answer};
+ghost use Rattle.surface_top.specs.Ending.{manifest_answer, status_of, IsWordsAnswer, IsNoManifest, IsNoCircuit, IsAccepted, IsWithin, Answered, EndsAs};
+ghost use Rattle.surface_top.specs.Outcome.{own_status, Gains, IsOutcome, source_view, sink_view, outside};
 
 use crate::answers::{check, print, value};
 use crate::ending::Ending;
-use crate::running::run;
+use crate::message::message_of;
+use crate::run::{RunOptions, run_manifest};
 use circuit_text::{Circuit, CircuitError, read_circuit};
 use manifest_read::{Manifest, ManifestError, read_manifest};
 use std::alloc::Global;
-use surf_outside::{Sink, SlurpError, Source, slurp};
+use std::thread::Threads;
+use surf_kinds::Status;
+use surf_outside::{Gate, Sink, SlurpError, Source, put_all, slurp};
 use surface_words::{Program, Words};
 
 /// The most bytes that are read: 64 MiB.
@@ -62,39 +65,73 @@ fn inputs(words: &[String], index: Option<usize>) -> &str
     }
 }
 
-/// Does what the words say with a manifest or a circuit, and writes what that gives.
-fn answer_text<O: Sink>(
-    alloc: Global,
-    words: &[String],
-    said: Words,
-    text: &[u8],
-    out: &mut O,
-) -> Ending
+/// What is done with a manifest.
+#[derive(Clone, Copy)]
+pub(crate) enum ManifestJob {
+    Check,
+    Print,
+    Run(RunOptions),
+}
+
+/// Reads a manifest and writes what the job makes of it.
+fn answer_manifest<O: Sink>(alloc: Global, text: &[u8], job: ManifestJob, out: &mut O) -> Ending
     requires size { length text.now ≤ 67108864 }
-    requires within { IsInRange (length words.now) said }
-    ensures { Answered (answer_within said (map string_bytes words.now) text.now) result (O.held out.old) (O.held out.new) (O.faults out.old) (O.faults out.new) }
+    requires within { IsWithin job }
+    ensures { Answered (by_manifest (manifest_answer job) (manifest_of text.now)) result (O.written out.old) (O.written out.new) (O.faults out.old) (O.faults out.new) }
 {
-    if let Words::Value { inputs: index } = said {
-        return match circuit(alloc, text) {
-            Ok(circuit) => value(alloc, &circuit, inputs(words, index), out),
-            Err(ending) => ending,
-        };
-    }
     let manifest = match manifest(alloc, text) {
         Ok(manifest) => manifest,
         Err(ending) => return ending,
     };
-    match said {
-        Words::Check => check(alloc, &manifest, out),
-        Words::Print => print(alloc, &manifest, out),
+    match job {
+        ManifestJob::Check => check(alloc, &manifest, out),
+        ManifestJob::Print => print(alloc, &manifest, out),
+        ManifestJob::Run(options) => run_manifest(alloc, manifest, options, out),
+    }
+}
+
+/// Reads a circuit and writes the values of its outputs.
+fn answer_circuit<O: Sink>(alloc: Global, text: &[u8], inputs: &str, out: &mut O) -> Ending
+    requires { length text.now ≤ 67108864 }
+    ensures { Answered (by_circuit (value_answer inputs.now) (circuit_in text.now)) result (O.written out.old) (O.written out.new) (O.faults out.old) (O.faults out.new) }
+{
+    match circuit(alloc, text) {
+        Ok(circuit) => value(alloc, &circuit, inputs, out),
+        Err(ending) => ending,
+    }
+}
+
+/// Does what the words say with the text that was read, and writes what that gives.
+fn answer_text<O: Sink>(
+    alloc: Global,
+    words: &[String],
+    command: Words,
+    text: &[u8],
+    out: &mut O,
+) -> Ending
+    requires size { length text.now ≤ 67108864 }
+    requires within { IsInRange (length words.now) command }
+    ensures { Answered (answer_within command (map string_bytes words.now) text.now) result (O.written out.old) (O.written out.new) (O.faults out.old) (O.faults out.new) }
+{
+    match command {
+        Words::Check => answer_manifest(alloc, text, ManifestJob::Check, out),
+        Words::Print => answer_manifest(alloc, text, ManifestJob::Print, out),
         Words::Run {
             seed,
             until,
             samples,
             limit,
             ..
-        } => run(alloc, manifest, seed, until, samples, limit, out),
-        Words::Value { .. } => unreachable!(),
+        } => {
+            let options = RunOptions {
+                seed,
+                until,
+                samples,
+                limit,
+            };
+            answer_manifest(alloc, text, ManifestJob::Run(options), out)
+        }
+        Words::Value { inputs: index } => answer_circuit(alloc, text, inputs(words, index), out),
     }
 }
 
@@ -102,15 +139,15 @@ fn answer_text<O: Sink>(
 fn answer_source<S: Source, O: Sink>(
     alloc: Global,
     words: &[String],
-    said: Words,
+    command: Words,
     source: &mut S,
     out: &mut O,
 ) -> Ending
-    requires within { IsInRange (length words.now) said }
-    ensures ending { IfSome (S.left source.old) (λ bytes. IsEndingOf result (answer_to (map string_bytes words.now) said bytes)) }
-    ensures writes { IfSome (S.left source.old) (λ bytes. OutGains (status_of result) (answer_to (map string_bytes words.now) said bytes) (O.held out.old) (O.held out.new)) }
+    requires within { IsInRange (length words.now) command }
+    requires reads { reads command ≡ true }
+    ensures ends { EndsAs (answer_to (map string_bytes words.now) command) result (S.unread source.old) (O.written out.old) (O.written out.new) }
     ensures accepted { IsAccepted result }
-    ensures end { result ≡ Ending.Done → IsAtEnd (S.left source.new) }
+    ensures end { result ≡ Ending.Done → IsAtEnd (S.unread source.new) }
     ensures read { result ≡ Ending.ReadFault → Rose (S.faults source.old) (S.faults source.new) }
     ensures write { result ≡ Ending.WriteFault → Rose (O.faults out.old) (O.faults out.new) }
 {
@@ -120,27 +157,85 @@ fn answer_source<S: Source, O: Sink>(
         Err(SlurpError::TooLong) => return Ending::TooLong,
         Err(SlurpError::Memory) => return Ending::Memory,
     };
-    answer_text(alloc, words, said, &text, out)
+    answer_text(alloc, words, command, &text, out)
 }
 
 /// Does all that the words ask for but the message. Wrong words come first, and then nothing is read or written.
-pub(crate) fn work<S: Source, O: Sink>(
+fn work<S: Source, O: Sink>(alloc: Global, words: &[String], source: &mut S, out: &mut O) -> Ending
+    ensures ends { EndsAs (specified_answer Surface (map string_bytes words.now)) result (S.unread source.old) (O.written out.old) (O.written out.new) }
+    ensures words { IsWordsAnswer result (reading Surface (map string_bytes words.now)) }
+    ensures untouched { reads_source Surface (map string_bytes words.now) ≡ false → source.new ≡ source.old }
+    ensures unwritten { reading Surface (map string_bytes words.now) ≡ None → out.new ≡ out.old }
+    ensures end { result ≡ Ending.Done → reads_source Surface (map string_bytes words.now) ≡ true → IsAtEnd (S.unread source.new) }
+    ensures read { result ≡ Ending.ReadFault → Rose (S.faults source.old) (S.faults source.new) }
+    ensures reads { result ≡ Ending.ReadFault → reads_source Surface (map string_bytes words.now) ≡ true }
+    ensures write { result ≡ Ending.WriteFault → Rose (O.faults out.old) (O.faults out.new) }
+{
+    match Words::read(words, Program::Surface) {
+        Ok(command) => answer_source(alloc, words, command, source, out),
+        Err(index) => Ending::WrongWord(index as u64),
+    }
+}
+
+/// Writes a line. A fault of the notes changes no status, so nothing is made of it.
+fn put_message<N: Sink>(notes: &mut N, line: &[u8])
+    ensures { Gains (Rose (N.faults notes.old) (N.faults notes.new)) line.now (N.written notes.old) (N.written notes.new) }
+{
+    let _ = put_all(notes, line);
+}
+
+/// The program `surface`: does what the words say with the text that the source holds, and writes to `out`.
+///
+/// The commands `check`, `print` and `run` read a manifest, and `value` reads a circuit. Where the words are wrong
+/// nothing is read. Else the source is read to its end, of at most 67,108,864 bytes, and then the first fault of the
+/// text decides.
+///
+/// - `Done`: the whole text of the answer was written to `out`.
+/// - `Words`: exactly where the words aren't accepted.
+/// - `Faulty`: the text has a fault, or the word with the inputs isn't as long as the circuit has inputs.
+/// - `Limit`: the source holds too many bytes, a count of the text is above its limit, or a run has more events than
+///   its limit; then the text of the events up to the limit was written.
+/// - `ReadFault` and `WriteFault`: the source or `out` had a fault. With `WriteFault` a prefix of the text was written.
+/// - `Memory`: want of memory, which may come in place of every other status. A prefix of the text was written.
+///
+/// With every other status nothing was written to `out`. With every status but `Done` one line is written to `notes`; a
+/// fault of `notes` may cut it short, and leaves the status as it is.
+///
+/// What names the answer is said of some bytes, which are those of the source where it tells them. Today no command has
+/// lines that go to `notes` with `Done`.
+pub fn surface_main<R: Threads + Sync, S: Source, O: Sink, N: Sink, G: Gate>(
+    _rt: &R,
     alloc: Global,
     words: &[String],
     source: &mut S,
     out: &mut O,
-) -> Ending
-    ensures ending { IfSome (known (map string_bytes words.now) (S.left source.old)) (λ a. IsEndingOf result a) }
-    ensures writes { IfSome (known (map string_bytes words.now) (S.left source.old)) (λ a. OutGains (status_of result) a (O.held out.old) (O.held out.new)) }
-    ensures words { IsWordsAnswer result (reading Surface (map string_bytes words.now)) }
-    ensures untouched { reading Surface (map string_bytes words.now) ≡ None → source.new ≡ source.old }
+    notes: &mut N,
+    _gate: &G,
+) -> Status
+    ensures answer { IsOutcome (specified_answer Surface (map string_bytes words.now)) [] result
+        (outside (source_view (S.unread source.old) (S.faults source.old)) (sink_view (O.written out.old) (O.faults out.old)) (sink_view (N.written notes.old) (N.faults notes.old)))
+        (outside (source_view (S.unread source.new) (S.faults source.new)) (sink_view (O.written out.new) (O.faults out.new)) (sink_view (N.written notes.new) (N.faults notes.new))) }
+
+    ensures words { result ≡ Status.Words → reading Surface (map string_bytes words.now) ≡ None }
+    ensures wrong { reading Surface (map string_bytes words.now) ≡ None → (result ≡ Status.Words) ⊎ (result ≡ Status.Memory) }
     ensures unwritten { reading Surface (map string_bytes words.now) ≡ None → out.new ≡ out.old }
-    ensures end { result ≡ Ending.Done → IsAtEnd (S.left source.new) }
-    ensures read { result ≡ Ending.ReadFault → Rose (S.faults source.old) (S.faults source.new) }
-    ensures write { result ≡ Ending.WriteFault → Rose (O.faults out.old) (O.faults out.new) }
+
+    // Wrong words and commands that read nothing leave the source as it was.
+    ensures untouched { reads_source Surface (map string_bytes words.now) ≡ false → source.new ≡ source.old }
+    ensures end { result ≡ Status.Done → reads_source Surface (map string_bytes words.now) ≡ true → IsAtEnd (S.unread source.new) }
+    ensures reads { result ≡ Status.ReadFault → reads_source Surface (map string_bytes words.now) ≡ true }
+    ensures read { result ≡ Status.ReadFault → Rose (S.faults source.old) (S.faults source.new) }
+    ensures write { result ≡ Status.WriteFault → Rose (O.faults out.old) (O.faults out.new) }
 {
-    match Words::read(words, Program::Surface) {
-        Ok(said) => answer_source(alloc, words, said, source, out),
-        Err(index) => Ending::WrongWord(index as u64),
+    let ending = work(alloc, words, source, out);
+    match message_of(alloc, ending) {
+        Ok(line) => {
+            put_message(notes, line.as_bytes());
+            ending.status()
+        }
+        Err(_) => {
+            put_message(notes, b"memory\n");
+            Status::Memory
+        }
     }
 }

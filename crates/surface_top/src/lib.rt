@@ -11,18 +11,15 @@ mod answers;
 mod buffer;
 mod call;
 mod ending;
-mod main_call;
+pub mod laws;
 mod message;
 mod pages;
 mod run;
-mod running;
 mod ticks;
 mod writer;
 
-pub use main_call::surface_main;
+pub use call::surface_main;
 pub use surface_words::{Program, Words};
 
-#[cfg(test)]
-mod call_tests;
 #[cfg(test)]
 mod tests;

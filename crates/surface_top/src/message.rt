@@ -2,68 +2,18 @@
 
 ghost use Rattle.std.specs.Prelude.{◌≡◌, IfOk, string_bytes};
 ghost use Rattle.surface_top.specs.Ending.{status_of, answer_by};
-ghost use Rattle.surface_top.specs.Outcome.{manifest_kind_text, unit_text, circuit_kind_text, manifest_note, circuit_note, inputs_note, message};
+ghost use Rattle.surface_top.specs.Outcome.{manifest_note, circuit_note, inputs_note, message};
 
 use crate::ending::Ending;
-use circuit_text::{CircuitFault, CircuitKind};
-use manifest_read::{ManifestFault, ManifestKind};
+use circuit_text::CircuitFault;
+use manifest_read::ManifestFault;
 use std::alloc::{AllocError, Global};
-
-fn manifest_kind_name(kind: ManifestKind) -> &'static str
-    ensures { result.now ≡ manifest_kind_text kind }
-{
-    match kind {
-        ManifestKind::NotUtf8 => "NotUtf8",
-        ManifestKind::UnknownSection => "UnknownSection",
-        ManifestKind::SectionTwice => "SectionTwice",
-        ManifestKind::SectionOpen => "SectionOpen",
-        ManifestKind::SectionMissing => "SectionMissing",
-        ManifestKind::BadSetting => "BadSetting",
-        ManifestKind::SettingTwice => "SettingTwice",
-        ManifestKind::BadSeed => "BadSeed",
-        ManifestKind::BadDuration => "BadDuration",
-        ManifestKind::BadLattice => "BadLattice",
-        ManifestKind::BadWrap => "BadWrap",
-        ManifestKind::BadRate => "BadRate",
-        ManifestKind::BadRule => "BadRule",
-        ManifestKind::BadArity => "BadArity",
-        ManifestKind::RaggedRow => "RaggedRow",
-        ManifestKind::BadName => "BadName",
-        ManifestKind::NoSites => "NoSites",
-        ManifestKind::TooManySites => "TooManySites",
-        ManifestKind::TooManyRules => "TooManyRules",
-        ManifestKind::TooManySpecies => "TooManySpecies",
-    }
-}
-
-/// What the number of a fault counts.
-fn unit_name(kind: ManifestKind) -> &'static str
-    ensures { result.now ≡ unit_text kind }
-{
-    match kind {
-        ManifestKind::NotUtf8 => "byte",
-        _ => "line",
-    }
-}
-
-fn circuit_kind_name(kind: CircuitKind) -> &'static str
-    ensures { result.now ≡ circuit_kind_text kind }
-{
-    match kind {
-        CircuitKind::BadLine => "BadLine",
-        CircuitKind::UnknownNet => "UnknownNet",
-        CircuitKind::NetTwice => "NetTwice",
-        CircuitKind::NetLater => "NetLater",
-        CircuitKind::NoOutput => "NoOutput",
-        CircuitKind::TooManyNets => "TooManyNets",
-    }
-}
 
 fn manifest_line(alloc: Global, fault: ManifestFault) -> Result<String, AllocError>
     ensures { IfOk result (λ line. string_bytes line ≡ manifest_note fault) }
 {
-    let kind = manifest_kind_name(fault.kind);
-    let unit = unit_name(fault.kind);
+    let kind = fault.kind.name();
+    let unit = fault.kind.unit();
     let at = fault.at;
     format!(in alloc; "manifest {kind} {unit} {at}\n")
 }
@@ -71,7 +21,7 @@ fn manifest_line(alloc: Global, fault: ManifestFault) -> Result<String, AllocErr
 fn circuit_line(alloc: Global, fault: CircuitFault) -> Result<String, AllocError>
     ensures { IfOk result (λ line. string_bytes line ≡ circuit_note fault) }
 {
-    let kind = circuit_kind_name(fault.kind);
+    let kind = fault.kind.name();
     let line = fault.line;
     format!(in alloc; "circuit {kind} line {line}\n")
 }

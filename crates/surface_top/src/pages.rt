@@ -6,7 +6,7 @@ ghost use Rattle.surface_top.specs.Pages.{page, Puts};
 use crate::buffer::Buffer;
 use surf_outside::{Failed, Sink, put_all};
 
-/// Why a run did not tell all of its events.
+/// Why not all events of a run were written.
 #[derive(Clone, Copy, Debug, PartialEq, Eq)]
 pub(crate) enum Stop {
     /// It has more events than the limit.
@@ -17,12 +17,13 @@ pub(crate) enum Stop {
     Memory,
 }
 
-/// How many bytes wait before they go out together.
-const MUCH: usize = 32_768;
+/// How many bytes wait before they go out together: more than the lines of a list of events from one engine have, so
+/// that each such list goes out by one call.
+const MUCH: usize = 81_920;
 
 /// Sends what waits.
 pub(crate) fn flush<O: Sink>(out: &mut O, buffer: &mut Buffer) -> Result<(), Stop>
-    ensures puts { Puts (page (O.held out.old) (O.faults out.old) buffer.old) (page (O.held out.new) (O.faults out.new) buffer.new) [] result }
+    ensures puts { Puts (page (O.written out.old) (O.faults out.old) buffer.old) (page (O.written out.new) (O.faults out.new) buffer.new) [] result }
     ensures none { OnOk result (buffer.new.bytes ≡ []) }
     ensures fault { IfErr result (λ stop. stop ≡ Stop.Write) }
 {
@@ -37,7 +38,7 @@ pub(crate) fn flush<O: Sink>(out: &mut O, buffer: &mut Buffer) -> Result<(), Sto
 
 /// Sends what waits, where that is much.
 pub(crate) fn flush_much<O: Sink>(out: &mut O, buffer: &mut Buffer) -> Result<(), Stop>
-    ensures puts { Puts (page (O.held out.old) (O.faults out.old) buffer.old) (page (O.held out.new) (O.faults out.new) buffer.new) [] result }
+    ensures puts { Puts (page (O.written out.old) (O.faults out.old) buffer.old) (page (O.written out.new) (O.faults out.new) buffer.new) [] result }
     ensures fault { IfErr result (λ stop. stop ≡ Stop.Write) }
 {
     if buffer.bytes().len() < MUCH {

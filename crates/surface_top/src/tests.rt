@@ -1,241 +1,523 @@
-ghost use Rattle.std.specs.Prelude.{◌≡◌, ◌*◌, ◌^◌, ◌<◌, ◌≤◌, length, All, IfOk};
-ghost use Rattle.one_engine.specs.State.{LeavesWithin};
-
-use crate::run::{Span, Stop, write_run};
-use lattice::{Kind, Lattice};
-use plan::Plan;
-use species::Names;
+use super::*;
 use std::alloc::Global;
 use std::process::Abort;
 use std::test::Fail;
-use surf_kinds::{Rate, Rule, SpeciesId};
-use surf_outside::MemSink;
-use surface_state::Surface;
+use std::thread::Threads;
+use surf_kinds::Status;
+use surf_outside::{MemSink, MemSource, OpenGate};
+use surf_text::word_list;
 
-const A: SpeciesId = SpeciesId(0);
-
-const B: SpeciesId = SpeciesId(1);
-
-const C: SpeciesId = SpeciesId(2);
-
-// The rate at which every wait is one tick.
-#[tactic(auto, using(surf_kinds::proofs::Wholes::whole_reduced))]
-fn instant() -> Rate {
-    Rate {
-        p: 1_000_000_000,
-        q: 1,
-    }
+/// Words in one line, a text, and what the call answers: its status, and what stands in the sink and in the notes.
+#[derive(Clone, Copy)]
+struct Row {
+    line: &'static str,
+    text: &'static str,
+    status: Status,
+    out: &'static str,
+    notes: &'static str,
 }
 
-/// The names A, B and C.
-fn three_names<R: Abort>(rt: &R, alloc: Global) -> Result<Names, Fail>
-    ensures { IfOk result (λ names. length names ≡ 3) }
-{
-    let mut names = Names::new(alloc);
-    for name in ["A", "B", "C"] {
-        names.intern(name)?;
-    }
-    assert_eq!(rt; names.count(), 3);
-    Ok(names)
+const CATALYST: &str =
+    "!START_TRANSITION_RULES\n(1000000000) A + B -> A + C\n!END_TRANSITION_RULES\n!START_INIT_STATE\nB A B\n!END_INIT_STATE\n";
+
+const DECAY: &str =
+    "!START_TRANSITION_RULES\n(1000000000) A -> B\n!END_TRANSITION_RULES\n!START_INIT_STATE\nA A\n!END_INIT_STATE\n";
+
+const DEMO: &str =
+    "# Demo\npixels_per_node = 50\nrng_seed\t= 7\t# a seed\nmax_duration = 2.50\nfps = 60\n\n!START_TRANSITION_RULES\n(1) A + B -> B + A\n(0.25)\tC->A\n!END_TRANSITION_RULES\n\n!START_INIT_STATE\nA B\nC  A\n!END_INIT_STATE\n\n!START_COLORMAP\nA: (255, 0, 0)\n!END_COLORMAP\n";
+
+const DEMO_TEXT: &str =
+    "rng_seed = 7\nmax_duration = 2.5\nlattice = square\nwrap = false\npixels_per_node = 50\nfps = 60\n!START_TRANSITION_RULES\n(1) A + B -> B + A\n(1/4) C -> A\n!END_TRANSITION_RULES\n!START_INIT_STATE\nA B\nC A\n!END_INIT_STATE\n!START_COLORMAP\nA: (255, 0, 0)\n!END_COLORMAP\n";
+
+const XOR: &str = "input a b\nx = XOR a b\noutput x\n";
+
+/// Commands, options and their output.
+const ANSWERED: [Row; 23] = [
+    Row {
+        line: "run",
+        text: CATALYST,
+        status: Status::Done,
+        out: "event 1 0 0 east 0 1\nevent 2 0 1 east 0 0\nsurface 100000000 2\nC A C\ncounts A:1 B:0 C:2\nend 100000000 2\n",
+        notes: "",
+    },
+    Row {
+        line: "run --until 0.000002 --samples 2",
+        text: CATALYST,
+        status: Status::Done,
+        out: "event 1 0 0 east 0 1\nsurface 1 1\nC A B\ncounts A:1 B:1 C:1\nevent 2 0 1 east 0 0\nsurface 2 2\nC A C\ncounts A:1 B:0 C:2\nend 2 2\n",
+        notes: "",
+    },
+    Row {
+        line: "run --until 0.000002 --samples 5 --limit 2",
+        text: CATALYST,
+        status: Status::Done,
+        out: "surface 0 0\nB A B\ncounts A:1 B:2 C:0\nsurface 0 0\nB A B\ncounts A:1 B:2 C:0\nevent 1 0 0 east 0 1\nsurface 1 1\nC A B\ncounts A:1 B:1 C:1\nsurface 1 1\nC A B\ncounts A:1 B:1 C:1\nevent 2 0 1 east 0 0\nsurface 2 2\nC A C\ncounts A:1 B:0 C:2\nend 2 2\n",
+        notes: "",
+    },
+    Row {
+        line: "run --samples 0 --limit 2 --workers 64 --seed 3",
+        text: CATALYST,
+        status: Status::Done,
+        out: "event 1 0 0 east 0 1\nevent 2 0 1 east 0 0\nend 100000000 2\n",
+        notes: "",
+    },
+    Row {
+        line: "run --until 0.000002 --samples 2 --limit 1",
+        text: CATALYST,
+        status: Status::Limit,
+        out: "event 1 0 0 east 0 1\nsurface 1 1\nC A B\ncounts A:1 B:1 C:1\nlimit 1\n",
+        notes: "limit events 1\n",
+    },
+    Row {
+        line: "run --limit 0",
+        text: DECAY,
+        status: Status::Limit,
+        out: "limit 0\n",
+        notes: "limit events 0\n",
+    },
+    Row {
+        line: "run --limit 1",
+        text: DECAY,
+        status: Status::Limit,
+        out: "event 1 0 0 self 0 0\nlimit 1\n",
+        notes: "limit events 1\n",
+    },
+    Row {
+        line: "run --samples 0 --limit 2",
+        text: DECAY,
+        status: Status::Done,
+        out: "event 1 0 0 self 0 0\nevent 1 0 1 self 0 0\nend 100000000 2\n",
+        notes: "",
+    },
+    Row {
+        line: "run",
+        text: "max_duration = 10\n!START_INIT_STATE\nA\n!END_INIT_STATE\n",
+        status: Status::Done,
+        out: "surface 10000000 0\nA\ncounts A:1\nend 10000000 0\n",
+        notes: "",
+    },
+    Row {
+        line: "run",
+        text: "max_duration = 0\n!START_TRANSITION_RULES\n(1000000000) A -> B\n!END_TRANSITION_RULES\n!START_INIT_STATE\nA\n!END_INIT_STATE\n",
+        status: Status::Done,
+        out: "surface 0 0\nA\ncounts A:1 B:0\nend 0 0\n",
+        notes: "",
+    },
+    Row {
+        line: "run",
+        text: "max_duration = 10\n!START_TRANSITION_RULES\n(0) A -> B\n!END_TRANSITION_RULES\n!START_INIT_STATE\nA\n!END_INIT_STATE\n",
+        status: Status::Done,
+        out: "surface 10000000 0\nA\ncounts A:1 B:0\nend 10000000 0\n",
+        notes: "",
+    },
+    Row {
+        line: "print",
+        text: "max_duration = 10\n!START_TRANSITION_RULES\n(0) A -> B\n!END_TRANSITION_RULES\n!START_INIT_STATE\nA\n!END_INIT_STATE\n",
+        status: Status::Done,
+        out: "rng_seed = 0\nmax_duration = 10\nlattice = square\nwrap = false\n!START_TRANSITION_RULES\n(0) A -> B\n!END_TRANSITION_RULES\n!START_INIT_STATE\nA\n!END_INIT_STATE\n",
+        notes: "",
+    },
+    Row {
+        line: "run",
+        text: "!START_TRANSITION_RULES\n(1000000000) A + A -> B + B\n!END_TRANSITION_RULES\n!START_INIT_STATE\nA A\n!END_INIT_STATE\n",
+        status: Status::Done,
+        out: "event 1 0 0 east 0 0\nsurface 100000000 1\nB B\ncounts A:0 B:2\nend 100000000 1\n",
+        notes: "",
+    },
+    Row {
+        line: "run",
+        text: "!START_TRANSITION_RULES\n(1000000000) A + A -> B + C\n!END_TRANSITION_RULES\n!START_INIT_STATE\nA A\n!END_INIT_STATE\n",
+        status: Status::Done,
+        out: "event 1 0 0 east 0 0\nsurface 100000000 1\nB C\ncounts A:0 B:1 C:1\nend 100000000 1\n",
+        notes: "",
+    },
+    Row {
+        line: "run",
+        text: "max_duration = 0.000003\n!START_TRANSITION_RULES\n(1000000000) A -> A\n!END_TRANSITION_RULES\n!START_INIT_STATE\nA\n!END_INIT_STATE\n",
+        status: Status::Done,
+        out: "event 1 0 0 self 0 0\nevent 2 0 0 self 0 0\nevent 3 0 0 self 0 0\nsurface 3 3\nA\ncounts A:1\nend 3 3\n",
+        notes: "",
+    },
+    Row {
+        line: "run",
+        text: "!START_TRANSITION_RULES\n(1000000000) A + A -> B + B\n!END_TRANSITION_RULES\n!START_INIT_STATE\nA A A\n!END_INIT_STATE\n",
+        status: Status::Done,
+        out: "event 1 0 0 east 0 0\nsurface 100000000 1\nB B A\ncounts A:1 B:2\nend 100000000 1\n",
+        notes: "",
+    },
+    Row {
+        line: "run",
+        text: "lattice = hex\nwrap = true\n!START_TRANSITION_RULES\n(1000000000) A + B -> C + D\n!END_TRANSITION_RULES\n!START_INIT_STATE\nA N N\nN N B\nN N N\n!END_INIT_STATE\n",
+        status: Status::Done,
+        out: "event 1 0 0 southwest 0 0\nsurface 100000000 1\nC N N\nN N D\nN N N\ncounts A:0 B:0 C:1 D:1 N:7\nend 100000000 1\n",
+        notes: "",
+    },
+    Row {
+        line: "print",
+        text: DEMO,
+        status: Status::Done,
+        out: DEMO_TEXT,
+        notes: "",
+    },
+    Row {
+        line: "print",
+        text: DEMO_TEXT,
+        status: Status::Done,
+        out: DEMO_TEXT,
+        notes: "",
+    },
+    Row {
+        line: "check",
+        text: DEMO,
+        status: Status::Done,
+        out: "ok 2 2 square false 3 2 2500000\n",
+        notes: "",
+    },
+    Row {
+        line: "check",
+        text: "lattice = hex\nwrap = true\n!START_INIT_STATE\nA A A\nA A A\nA A A\n!END_INIT_STATE\n",
+        status: Status::Done,
+        out: "ok 3 3 hex true 1 0 100000000\n",
+        notes: "",
+    },
+    Row {
+        line: "value --inputs 10",
+        text: XOR,
+        status: Status::Done,
+        out: "x 1\n",
+        notes: "",
+    },
+    Row {
+        line: "value --inputs 11",
+        text: XOR,
+        status: Status::Done,
+        out: "x 0\n",
+        notes: "",
+    },
+];
+
+/// Refusals.
+const REFUSED: [Row; 11] = [
+    Row {
+        line: "",
+        text: CATALYST,
+        status: Status::Words,
+        out: "",
+        notes: "words 0\n",
+    },
+    Row {
+        line: "watch",
+        text: CATALYST,
+        status: Status::Words,
+        out: "",
+        notes: "words 0\n",
+    },
+    Row {
+        line: "run --workers 0",
+        text: CATALYST,
+        status: Status::Words,
+        out: "",
+        notes: "words 2\n",
+    },
+    Row {
+        line: "run --seed",
+        text: CATALYST,
+        status: Status::Words,
+        out: "",
+        notes: "words 2\n",
+    },
+    Row {
+        line: "run --workers 2 --workers 2",
+        text: CATALYST,
+        status: Status::Words,
+        out: "",
+        notes: "words 3\n",
+    },
+    Row {
+        line: "run",
+        text: "!START_INIT_STATE\nA B\nA B\nA\n!END_INIT_STATE\n",
+        status: Status::Faulty,
+        out: "",
+        notes: "manifest RaggedRow line 4\n",
+    },
+    Row {
+        line: "check",
+        text: "",
+        status: Status::Faulty,
+        out: "",
+        notes: "manifest SectionMissing line 1\n",
+    },
+    Row {
+        line: "check",
+        text: "!START_INIT_STATE\nA\n",
+        status: Status::Faulty,
+        out: "",
+        notes: "manifest SectionOpen line 1\n",
+    },
+    Row {
+        line: "value",
+        text: "input a\n",
+        status: Status::Faulty,
+        out: "",
+        notes: "circuit NoOutput line 2\n",
+    },
+    Row {
+        line: "value",
+        text: "input a\nx = AND a y\ny = NOT a\noutput x\n",
+        status: Status::Faulty,
+        out: "",
+        notes: "circuit NetLater line 2\n",
+    },
+    Row {
+        line: "value --inputs 1",
+        text: XOR,
+        status: Status::Faulty,
+        out: "",
+        notes: "circuit WrongInputs 2 1\n",
+    },
+];
+
+/// Which calls of the source, the sink and the notes fail (0: none).
+#[derive(Clone, Copy)]
+struct Fails {
+    source: u64,
+    out: u64,
+    notes: u64,
 }
 
-/// Runs rules on a surface of these cells.
-fn run_cells<R: Abort>(
+const NONE: Fails = Fails {
+    source: 0,
+    out: 0,
+    notes: 0,
+};
+
+/// Runs words on bytes and sees that this is what is answered.
+fn answers<R: Threads + Sync + Abort>(
     rt: &R,
     alloc: Global,
-    rules: &[Rule],
-    lattice: Lattice,
-    cells: &[SpeciesId],
-    span: Span,
-    sink: &mut MemSink,
-) -> Result<Result<(), Stop>, Fail>
-    requires rules { length rules.now ≤ 4096 }
-    requires leaves { All (LeavesWithin 3) rules.now }
-    requires sites { length cells.now ≡ lattice.rows * lattice.cols }
-    requires species { All (λ s. s.0 < 3) cells.now }
-    requires duration { span.until ≤ 10 ^ 15 }
-    requires samples { span.samples ≤ 10000 }
-    requires limit { span.limit ≤ 10000000 }
-{
-    let names = three_names(rt, alloc)?;
-    let plan = Plan::new(alloc, rules, lattice, 0)?;
-    let surface = Surface::new(alloc, lattice, cells, 3)?;
-    Ok(write_run(alloc, &names, plan, surface, span, sink))
-}
-
-/// Runs A + B -> A + C on B A B, where the sink fails at one call (0: at none), and sees what is told.
-fn catalyst_tells<R: Abort>(
-    rt: &R,
-    alloc: Global,
-    span: Span,
-    fails: u64,
-    answer: Result<(), Stop>,
+    row: &Row,
     text: &[u8],
-) -> Result<(), Fail>
-    requires duration { span.until ≤ 10 ^ 15 }
-    requires samples { span.samples ≤ 10000 }
-    requires limit { span.limit ≤ 10000000 }
-{
-    let rules = [Rule::Two {
-        rate: instant(),
-        a: A,
-        b: B,
-        c: A,
-        d: C,
-    }];
-    let lattice = Lattice::new(Kind::Square, 1, 3, false)?;
-    let mut sink = MemSink::new(alloc, 1000, 7, &[fails])?;
-    let told = run_cells(rt, alloc, &rules, lattice, &[B, A, B], span, &mut sink)?;
-    assert_eq!(rt; told, answer);
-    assert_eq!(rt; sink.bytes(), text);
+    fails: Fails,
+) -> Result<(), Fail> {
+    let mut words = Vec::new(alloc);
+    for word in word_list(alloc, row.line)?.as_slice() {
+        words.push(String::from_str(alloc, *word)?)?;
+    }
+    let mut source = MemSource::new(alloc, text, 65_536, &[fails.source])?;
+    let mut out = MemSink::new(alloc, 1000, 7, &[fails.out])?;
+    let mut notes = MemSink::new(alloc, 1000, 4, &[fails.notes])?;
+    let status = surface_main(
+        rt,
+        alloc,
+        words.as_slice(),
+        &mut source,
+        &mut out,
+        &mut notes,
+        &OpenGate,
+    );
+    assert_eq!(rt; status, row.status);
+    assert_eq!(rt; out.bytes(), row.out.as_bytes());
+    assert_eq!(rt; notes.bytes(), row.notes.as_bytes());
     Ok(())
 }
 
-const WHOLE: &str =
-    "event 1 0 0 east 0 1\nsurface 1 1\nC A B\ncounts A:1 B:1 C:1\nevent 2 0 1 east 0 0\nsurface 2 2\nC A C\ncounts A:1 B:0 C:2\nend 2 2\n";
-
 #[test]
-fn surfaces_stand_between_events(rt: HostRuntime) -> Result<(), Fail> {
-    let span = Span {
-        until: 2,
-        samples: 2,
-        limit: 1000,
-    };
-    catalyst_tells(&rt, rt.alloc(), span, 0, Ok(()), WHOLE.as_bytes())
-}
-
-#[test]
-fn equal_ticks_show_equal_surfaces(rt: HostRuntime) -> Result<(), Fail> {
-    let span = Span {
-        until: 2,
-        samples: 5,
-        limit: 2,
-    };
-    catalyst_tells(
-        &rt,
-        rt.alloc(),
-        span,
-        0,
-        Ok(()),
-        b"surface 0 0\nB A B\ncounts A:1 B:2 C:0\nsurface 0 0\nB A B\ncounts A:1 B:2 C:0\nevent 1 0 0 east 0 1\nsurface 1 1\nC A B\ncounts A:1 B:1 C:1\nsurface 1 1\nC A B\ncounts A:1 B:1 C:1\nevent 2 0 1 east 0 0\nsurface 2 2\nC A C\ncounts A:1 B:0 C:2\nend 2 2\n",
-    )
-}
-
-#[test]
-fn surfaces_before_the_event_past_the_limit_are_shown(rt: HostRuntime) -> Result<(), Fail> {
-    let span = Span {
-        until: 3,
-        samples: 3,
-        limit: 1,
-    };
-    catalyst_tells(
-        &rt,
-        rt.alloc(),
-        span,
-        0,
-        Err(Stop::Limit),
-        b"event 1 0 0 east 0 1\nsurface 1 1\nC A B\ncounts A:1 B:1 C:1\nlimit 1\n",
-    )
-}
-
-/// Runs A -> B on A A, and sees what is told.
-fn pair_tells<R: Abort>(
-    rt: &R,
-    alloc: Global,
-    limit: u64,
-    answer: Result<(), Stop>,
-    text: &[u8],
-) -> Result<(), Fail>
-    requires { limit ≤ 10000000 }
-{
-    let rules = [Rule::One {
-        rate: instant(),
-        a: A,
-        c: B,
-    }];
-    let lattice = Lattice::new(Kind::Square, 1, 2, false)?;
-    let span = Span {
-        until: 10,
-        samples: 0,
-        limit,
-    };
-    let mut sink = MemSink::new(alloc, 1000, 100, &[])?;
-    let told = run_cells(rt, alloc, &rules, lattice, &[A, A], span, &mut sink)?;
-    assert_eq!(rt; told, answer);
-    assert_eq!(rt; sink.bytes(), text);
+fn words_and_texts_have_their_answers(rt: HostRuntime) -> Result<(), Fail> {
+    for row in &ANSWERED {
+        answers(&rt, rt.alloc(), row, row.text.as_bytes(), NONE)?;
+    }
+    for row in &REFUSED {
+        answers(&rt, rt.alloc(), row, row.text.as_bytes(), NONE)?;
+    }
     Ok(())
 }
 
+/// What words on CATALYST, or on a text of many sharps, answer where calls of the outside fail.
+fn faulty(line: &'static str, status: Status, out: &'static str, notes: &'static str) -> Row {
+    Row {
+        line,
+        text: CATALYST,
+        status,
+        out,
+        notes,
+    }
+}
+
 #[test]
-fn the_event_past_the_limit_is_not_told(rt: HostRuntime) -> Result<(), Fail> {
+fn faults_of_the_outside_have_their_answers(rt: HostRuntime) -> Result<(), Fail> {
+    let text = CATALYST.as_bytes();
+    let read = faulty("run", Status::ReadFault, "", "read fault\n");
+    answers(&rt, rt.alloc(), &read, text, Fails { source: 1, ..NONE })?;
+    let write = faulty("run", Status::WriteFault, "event 1 0 0 ea", "write fault\n");
+    answers(&rt, rt.alloc(), &write, text, Fails { out: 3, ..NONE })?;
+    let notes = faulty("run --seed", Status::Words, "", "word");
+    answers(&rt, rt.alloc(), &notes, text, Fails { notes: 2, ..NONE })
+}
+
+#[test]
+fn a_byte_above_64_mib_is_too_long(rt: HostRuntime) -> Result<(), Fail> {
+    let sharps = vec![in rt.alloc(); b'#'; 67_108_865]?;
+    let long = faulty("check", Status::Limit, "", "limit bytes 67108864\n");
+    answers(&rt, rt.alloc(), &long, &sharps, NONE)?;
+    let missing = faulty(
+        "check",
+        Status::Faulty,
+        "",
+        "manifest SectionMissing line 2\n",
+    );
+    answers(&rt, rt.alloc(), &missing, &sharps[1..], NONE)
+}
+
+/// A line that stands so many times between others.
+fn repeated(
+    alloc: Global,
+    head: &[u8],
+    line: &[u8],
+    count: usize,
+    tail: &[u8],
+) -> Result<Vec<u8>, Fail> {
+    let mut text = Vec::new(alloc);
+    text.extend_from_slice(head)?;
+    for _ in 0..count {
+        text.extend_from_slice(line)?;
+    }
+    text.extend_from_slice(tail)?;
+    Ok(text)
+}
+
+#[test]
+fn counts_above_their_limits_are_refused(rt: HostRuntime) -> Result<(), Fail> {
     let alloc = rt.alloc();
-    pair_tells(&rt, alloc, 0, Err(Stop::Limit), b"limit 0\n")?;
-    pair_tells(
+    let row = repeated(alloc, b"", b"A ", 1024, b"\n")?;
+    let open = b"!START_INIT_STATE\n".as_slice();
+    let close = b"!END_INIT_STATE\n".as_slice();
+    let most = faulty(
+        "check",
+        Status::Done,
+        "ok 1024 1024 square false 1 0 100000000\n",
+        "",
+    );
+    answers(
         &rt,
         alloc,
-        1,
-        Err(Stop::Limit),
-        b"event 1 0 0 self 0 0\nlimit 1\n",
+        &most,
+        &repeated(alloc, open, &row, 1024, close)?,
+        NONE,
     )?;
-    pair_tells(
+    let sites = faulty(
+        "check",
+        Status::Limit,
+        "",
+        "manifest TooManySites line 1026\n",
+    );
+    answers(
         &rt,
         alloc,
-        2,
-        Ok(()),
-        b"event 1 0 0 self 0 0\nevent 1 0 1 self 0 0\nend 10 2\n",
+        &sites,
+        &repeated(alloc, open, &row, 1025, close)?,
+        NONE,
+    )?;
+    let rules = repeated(alloc, b"!START_TRANSITION_RULES\n", b"A -> A\n", 4097, b"")?;
+    let many = faulty(
+        "check",
+        Status::Limit,
+        "",
+        "manifest TooManyRules line 4098\n",
+    );
+    answers(&rt, alloc, &many, &rules, NONE)
+}
+
+/// A row of so many different names as a surface.
+fn different_names(alloc: Global, count: u32) -> Result<String, Fail> {
+    let mut text = String::from_str(alloc, "!START_INIT_STATE\n")?;
+    for i in 0..count {
+        text.push_str(format!(in alloc; "N{i} ")?.as_str())?;
+    }
+    text.push_str("\n!END_INIT_STATE\n")?;
+    Ok(text)
+}
+
+#[test]
+fn there_are_up_to_4096_species(rt: HostRuntime) -> Result<(), Fail> {
+    let alloc = rt.alloc();
+    let most = faulty(
+        "check",
+        Status::Done,
+        "ok 1 4096 square false 4096 0 100000000\n",
+        "",
+    );
+    answers(
+        &rt,
+        alloc,
+        &most,
+        different_names(alloc, 4096)?.as_bytes(),
+        NONE,
+    )?;
+    let many = faulty(
+        "check",
+        Status::Limit,
+        "",
+        "manifest TooManySpecies line 2\n",
+    );
+    answers(
+        &rt,
+        alloc,
+        &many,
+        different_names(alloc, 4097)?.as_bytes(),
+        NONE,
     )
 }
 
-#[test]
-fn a_fault_of_the_sink_leaves_a_prefix(rt: HostRuntime) -> Result<(), Fail> {
-    let span = Span {
-        until: 2,
-        samples: 2,
-        limit: 1000,
-    };
-    let whole = WHOLE.as_bytes();
-    for call in 0..18 {
-        let told = &whole[..call * 7];
-        catalyst_tells(
-            &rt,
-            rt.alloc(),
-            span,
-            call as u64 + 1,
-            Err(Stop::Write),
-            told,
-        )?;
+/// Runs words on a text and gives what stands in the sink.
+fn written<R: Threads + Sync + Abort>(
+    rt: &R,
+    alloc: Global,
+    line: &str,
+    text: &str,
+) -> Result<Vec<u8>, Fail> {
+    let mut words = Vec::new(alloc);
+    for word in word_list(alloc, line)?.as_slice() {
+        words.push(String::from_str(alloc, *word)?)?;
     }
-    catalyst_tells(&rt, rt.alloc(), span, 19, Ok(()), whole)
+    let mut source = MemSource::new(alloc, text.as_bytes(), 65_536, &[])?;
+    let mut out = MemSink::new(alloc, 1_000_000, 100_000, &[])?;
+    let mut notes = MemSink::new(alloc, 100, 100, &[])?;
+    let status = surface_main(
+        rt,
+        alloc,
+        words.as_slice(),
+        &mut source,
+        &mut out,
+        &mut notes,
+        &OpenGate,
+    );
+    assert_eq!(rt; status, Status::Done);
+    Ok(out.bytes().to_vec(alloc)?)
 }
 
-// Each site turns into the other species at each tick: 10,000 events, which fill more than two batches and whose text
-// goes out in several pieces.
+// One wait, from 1 to 44,361,420 ticks long; and 10,000 events, which fill several lists.
 #[test]
-fn a_long_run_is_told_to_its_end(rt: HostRuntime) -> Result<(), Fail> {
-    let alloc = rt.alloc();
-    let rules = [
-        Rule::One {
-            rate: instant(),
-            a: A,
-            c: B,
-        },
-        Rule::One {
-            rate: instant(),
-            a: B,
-            c: A,
-        },
-    ];
-    let lattice = Lattice::new(Kind::Square, 5, 8, false)?;
-    let span = Span {
-        until: 250,
-        samples: 0,
-        limit: 10_000,
-    };
-    let mut sink = MemSink::new(alloc, 1_000_000, 100_000, &[])?;
-    let told = run_cells(&rt, alloc, &rules, lattice, &[A; 40], span, &mut sink)?;
-    assert_eq!(rt; told, Ok(()));
-    let text = sink.bytes();
-    assert!(rt; text.starts_with(b"event 1 0 0 self 0 0\nevent 1 0 1 self 0 0\n"));
-    assert!(rt; text.ends_with(b"event 250 4 6 self 1 0\nevent 250 4 7 self 1 0\nend 250 10000\n"));
+fn runs_go_to_their_ends(rt: HostRuntime) -> Result<(), Fail> {
+    let decay =
+        "max_duration = 1000000000\n!START_TRANSITION_RULES\n(1) A -> B\n!END_TRANSITION_RULES\n!START_INIT_STATE\nA\n!END_INIT_STATE\n";
+    let text = written(&rt, rt.alloc(), "run", decay)?;
+    assert!(rt; text.as_slice().starts_with(b"event "));
+    assert!(rt;
+        text.as_slice().ends_with(
+            b" 0 0 self 0 0\nsurface 1000000000000000 1\nB\ncounts A:0 B:1\nend 1000000000000000 1\n"
+        )
+    );
+    let flips =
+        "max_duration = 0.00025\n!START_TRANSITION_RULES\n(1000000000) A -> B\n(1000000000) B -> A\n!END_TRANSITION_RULES\n!START_INIT_STATE\nA A A A A A A A\nA A A A A A A A\nA A A A A A A A\nA A A A A A A A\nA A A A A A A A\n!END_INIT_STATE\n";
+    let text = written(&rt, rt.alloc(), "run --samples 0 --limit 10000", flips)?;
+    assert!(rt;
+        text.as_slice()
+            .starts_with(b"event 1 0 0 self 0 0\nevent 1 0 1 self 0 0\n")
+    );
+    assert!(rt;
+        text.as_slice().ends_with(
+            b"event 250 4 6 self 1 0\nevent 250 4 7 self 1 0\nend 250 10000\n"
+        )
+    );
     Ok(())
 }

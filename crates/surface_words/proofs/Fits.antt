@@ -1,5 +1,6 @@
 -- Accepted lists, word by word from left to right.
 use Rattle.std.proofs.Common.{◌≡◌, ℕ, ◌+◌, Bool, true, false, not, ◌&&◌, ◌||◌, List, [], ◌∷◌, Option, Some, None, cond, refl, sym, ap, ◌∙◌}
+use Rattle.std.proofs.Math.Bool.{and-true}
 use Rattle.std.specs.List.{list_all}
 use Rattle.std.specs.Option.{option_and_then, option_map_or, is_none}
 use Rattle.surface_words.specs.declared.commands.Program.{Program}
@@ -87,10 +88,6 @@ fits_behind command (name ∷ value ∷ words) before = by_option (option_of nam
         last option true = refl
         last option false = refl
 
-and_true : (b : Bool) → (b && true) ≡ b
-and_true true = refl
-and_true false = refl
-
 new_first : (pairs : List Pair) → are_new [] pairs ≡ true
 new_first [] = refl
 new_first (pair ∷ pairs) = new_first pairs
@@ -100,7 +97,7 @@ accepted_after command words = by (pairs_of words) ∙ fits_behind command words
   where
     by : (o : Option (List Pair)) → option_map_or (are_accepted command) o false ≡ option_map_or (are_accepted_behind command []) o false
     by None = refl
-    by (Some pairs) = sym (ap (λ t. are_accepted command pairs && t) (new_first pairs) ∙ and_true (are_accepted command pairs))
+    by (Some pairs) = sym (ap (λ t. are_accepted command pairs && t) (new_first pairs) ∙ and-true (are_accepted command pairs))
 
 -- no word is wrong exactly where the words may stand there
 pub fits_unless_wrong : (command : Command) (words : List (List ℕ)) (before : List OptionName) (at : ℕ) → is_none (wrong_from command before at words) ≡ fits command before words

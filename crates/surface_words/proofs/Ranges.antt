@@ -14,7 +14,7 @@ use Rattle.surface_words.specs.declared.options.OptionName.TheVariants.{Workers,
 use Rattle.surface_words.specs.declared.words.Words.{Words}
 use Rattle.surface_words.specs.Commands.{command_of, option_of, same_option, whole_in, number_of}
 use Rattle.surface_words.specs.Accepted.{Pair, pairs_of, with_pair, is_accepted}
-use Rattle.surface_words.specs.Reading.{value_given, number_given, index_given, words_of, words_said, reading, IsInRange}
+use Rattle.surface_words.specs.Reading.{value_given, number_given, index_given, words_of, spelled_words, reading, IsInRange}
 
 abbrev IsWithin : ℕ → ℕ → ℕ → Type 0
 IsWithin least most n = (least ≤ n) × (n ≤ most)
@@ -121,10 +121,10 @@ reading_within program words w h = by (is_accepted program words) h
     by_command word words None h = absurd (cc)
     by_command word words (Some command) h = by_pairs word words command (pairs_of words) refl h
 
-    by_words : (words : List (List ℕ)) → words_said program words ≡ Some w → IsInRange (length words) w
+    by_words : (words : List (List ℕ)) → spelled_words program words ≡ Some w → IsInRange (length words) w
     by_words [] h = absurd (cc)
     by_words (word ∷ words) h = by_command word words (command_of program word) h
 
-    by : (b : Bool) → cond b (words_said program words) None ≡ Some w → IsInRange (length words) w
+    by : (b : Bool) → cond b (spelled_words program words) None ≡ Some w → IsInRange (length words) w
     by true h = by_words words h
     by false h = absurd (cc)

@@ -8,7 +8,7 @@ use Rattle.surface_words.specs.declared.given.Given.{Given}
 use Rattle.surface_words.specs.Commands.{command_of}
 use Rattle.surface_words.specs.Accepted.{Pair, pairs_of}
 use Rattle.surface_words.specs.FirstWrong.{first_wrong}
-use Rattle.surface_words.specs.Reading.{words_of, words_said, reading}
+use Rattle.surface_words.specs.Reading.{words_of, spelled_words, reading}
 use Rattle.surface_words.specs.Given.{given_by, words_by}
 use Rattle.surface_words.proofs.Fits.{accepted_unless_wrong}
 
@@ -27,6 +27,6 @@ by_given command given (Some pairs) h =
 pub reading_is : (program : Program) (word : List ℕ) (words : List (List ℕ)) (command : Command) (given : Given) → command_of program word ≡ Some command → first_wrong program (word ∷ words) ≡ None
     → option_map (given_by 2) (pairs_of words) ≡ Some given → reading program (word ∷ words) ≡ Some (words_by command given)
 reading_is program word words command given e right values =
-    ap (λ b. cond b (words_said program (word ∷ words)) None) (accepted_unless_wrong program (word ∷ words) ∙ ap is_none right)
+    ap (λ b. cond b (spelled_words program (word ∷ words)) None) (accepted_unless_wrong program (word ∷ words) ∙ ap is_none right)
     ∙ ap (option_and_then (λ command. option_map (words_of command) (pairs_of words))) e
     ∙ by_given command given (pairs_of words) values

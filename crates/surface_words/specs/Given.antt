@@ -8,7 +8,7 @@ use Rattle.surface_words.specs.declared.given.Given.{Given}
 use Rattle.surface_words.specs.declared.options.OptionName.{OptionName}
 use Rattle.surface_words.specs.declared.options.OptionName.TheVariants.{Workers, Seed, Until, Samples, Limit, Inputs}
 use Rattle.surface_words.specs.declared.words.Words.{Words}
-use Rattle.surface_words.specs.declared.words.Words.TheVariants as said
+use Rattle.surface_words.specs.declared.words.Words.TheVariants as variant
 use Rattle.surface_words.specs.Commands.{option_of, has_option, number_of, is_bit}
 use Rattle.surface_words.specs.Accepted.{Pair}
 use Rattle.surface_words.specs.Reading.{number_given, index_given}
@@ -40,10 +40,10 @@ with_value given Inputs value index = if list_all is_bit value then Some (record
 
 -- what the command says with these values
 abbrev pub words_by : Command → Given → Words
-words_by Check given = said.Check
-words_by Print given = said.Print
-words_by Run given = said.Run (unwrap_or given.workers 1) given.seed given.until (unwrap_or given.samples 1) (unwrap_or given.limit 1000000)
-words_by Value given = said.Value given.inputs
+words_by Check given = variant.Check
+words_by Print given = variant.Print
+words_by Run given = variant.Run (unwrap_or given.workers 1) given.seed given.until (unwrap_or given.samples 1) (unwrap_or given.limit 1000000)
+words_by Value given = variant.Value given.inputs
 
 -- the values that pairs give, where the first pair's value has the index `at`
 abbrev pub given_by : ℕ → List Pair → Given

@@ -1,5 +1,5 @@
 -- What accepted words say.
-use Rattle.std.specs.Prelude.{ℕ, ◌+◌, ◌^◌, ◌<◌, ◌≤◌, List, [], ◌∷◌, Option, Some, None, unwrap_or, IfSome, if◌then◌else◌}
+use Rattle.std.specs.Prelude.{ℕ, Bool, true, ◌+◌, ◌^◌, ◌<◌, ◌≤◌, List, [], ◌∷◌, Option, Some, None, unwrap_or, IfSome, if◌then◌else◌}
 use Rattle.std.specs.Option.{option_map, option_and_then}
 use Rattle.surface_words.specs.declared.commands.Program.{Program}
 use Rattle.surface_words.specs.declared.commands.Command.{Command}
@@ -7,7 +7,7 @@ use Rattle.surface_words.specs.declared.commands.Command.TheVariants.{Check, Pri
 use Rattle.surface_words.specs.declared.options.OptionName.{OptionName}
 use Rattle.surface_words.specs.declared.options.OptionName.TheVariants.{Workers, Seed, Until, Samples, Limit, Inputs}
 use Rattle.surface_words.specs.declared.words.Words.{Words}
-use Rattle.surface_words.specs.declared.words.Words.TheVariants as said
+use Rattle.surface_words.specs.declared.words.Words.TheVariants as variant
 use Rattle.surface_words.specs.Commands.{command_of, same_option, number_of}
 use Rattle.surface_words.specs.Accepted.{Pair, pairs_of, is_accepted}
 
@@ -27,23 +27,31 @@ index_given option at (pair ∷ pairs) = if same_option pair.option option then 
 
 -- what a command with these pairs says, with what is meant where an option isn't given
 abbrev pub words_of : Command → List Pair → Words
-words_of Check pairs = said.Check
-words_of Print pairs = said.Print
-words_of Run pairs = said.Run
+words_of Check pairs = variant.Check
+words_of Print pairs = variant.Print
+words_of Run pairs = variant.Run
     (unwrap_or (number_given Workers pairs) 1)
     (number_given Seed pairs)
     (number_given Until pairs)
     (unwrap_or (number_given Samples pairs) 1)
     (unwrap_or (number_given Limit pairs) 1000000)
-words_of Value pairs = said.Value (index_given Inputs 2 pairs)
+words_of Value pairs = variant.Value (index_given Inputs 2 pairs)
 
-abbrev pub words_said : Program → List (List ℕ) → Option Words
-words_said program [] = None
-words_said program (word ∷ words) = option_and_then (λ command. option_map (words_of command) (pairs_of words)) (command_of program word)
+-- what a list of words spells, whether it is accepted or not
+abbrev pub spelled_words : Program → List (List ℕ) → Option Words
+spelled_words program [] = None
+spelled_words program (word ∷ words) = option_and_then (λ command. option_map (words_of command) (pairs_of words)) (command_of program word)
 
 -- what a list of words says; None exactly where it isn't accepted
 abbrev pub reading : Program → List (List ℕ) → Option Words
-reading program words = if is_accepted program words then words_said program words else None
+reading program words = if is_accepted program words then spelled_words program words else None
+
+-- whether the command reads its input
+abbrev pub reads : Words → Bool
+reads variant.Check = true
+reads variant.Print = true
+reads (variant.Run workers seed until samples limit) = true
+reads (variant.Value inputs) = true
 
 -- the bounds of a run
 pub record IsRunInRange (workers : ℕ) (until : Option ℕ) (samples limit : ℕ) : Type 0 where
@@ -55,7 +63,7 @@ pub record IsRunInRange (workers : ℕ) (until : Option ℕ) (samples limit : �
 
 -- the bounds of what a list of so many words says
 abbrev pub IsInRange : ℕ → Words → Type 0
-IsInRange count said.Check = Unit {0}
-IsInRange count said.Print = Unit {0}
-IsInRange count (said.Run workers seed until samples limit) = IsRunInRange workers until samples limit
-IsInRange count (said.Value inputs) = IfSome inputs (λ index. index < count)
+IsInRange count variant.Check = Unit {0}
+IsInRange count variant.Print = Unit {0}
+IsInRange count (variant.Run workers seed until samples limit) = IsRunInRange workers until samples limit
+IsInRange count (variant.Value inputs) = IfSome inputs (λ index. index < count)

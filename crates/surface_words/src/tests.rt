@@ -1,12 +1,12 @@
 use super::*;
 use std::alloc::{AllocError, Global};
 use std::test::Fail;
-use surf_text::words;
+use surf_text::word_list;
 
 /// Reads the words of a line.
 fn read(alloc: Global, line: &str, program: Program) -> Result<Result<Words, usize>, AllocError> {
     let mut list = Vec::new(alloc);
-    for word in words(alloc, line)? {
+    for word in word_list(alloc, line)? {
         list.push(String::from_str(alloc, word)?)?;
     }
     Ok(Words::read(&list, program))
@@ -24,7 +24,7 @@ fn run(seed: Option<u64>, until: Option<u64>, samples: u64, limit: u64) -> Words
 
 #[test]
 fn accepted_words(rt: HostRuntime) -> Result<(), Fail> {
-    for (line, said) in [
+    for (line, words) in [
         ("check", Words::Check),
         ("print", Words::Print),
         ("run", run(None, None, 1, 1_000_000)),
@@ -44,7 +44,8 @@ fn accepted_words(rt: HostRuntime) -> Result<(), Fail> {
         ("value", Words::Value { inputs: None }),
         ("value --inputs 0110", Words::Value { inputs: Some(2) }),
     ] {
-        assert_eq!(rt; read(rt.alloc(), line, Program::Surface)?, Ok(said));
+        assert_eq!(rt; read(rt.alloc(), line, Program::Surface)?, Ok(words));
+        assert!(rt; words.reads());
     }
     Ok(())
 }

@@ -4,7 +4,7 @@ ghost use Rattle.std.specs.Prelude.{◌≡◌, ◌↔◌, ℕ, length, map, stri
 ghost use Rattle.surface_words.specs.Accepted.{is_accepted};
 ghost use Rattle.surface_words.specs.FirstWrong.{first_wrong, IsFirstWrong};
 ghost use Rattle.surface_words.specs.Given.{words_by};
-ghost use Rattle.surface_words.specs.Reading.{reading, IsInRange};
+ghost use Rattle.surface_words.specs.Reading.{reading, reads, IsInRange};
 
 use crate::commands::{Command, Program};
 use crate::given::Given;
@@ -74,6 +74,15 @@ impl Words {
         match Given::read(command, pairs) {
             Ok(given) => Ok(Words::of(command, &given)),
             Err(index) => Err(index),
+        }
+    }
+
+    /// Whether the command reads its input.
+    pub fn reads(&self) -> bool
+        ensures { result ≡ reads self.now }
+    {
+        match self {
+            Words::Check | Words::Print | Words::Run { .. } | Words::Value { .. } => true,
         }
     }
 }

@@ -1,35 +1,31 @@
 -- What stands while entries are undone, last first.
-use Rattle.std.proofs.Common.{◌≡◌, ℕ, ◌+◌, List, [], ◌∷◌, ◌++◌, None, false, length, refl, sym, ap, ◌∙◌, subst, arith, append-nil, append_assoc}
-use Rattle.std.specs.Prelude.{IfSome, IsTrue, not}
-use Rattle.std.specs.List.{last_or}
+use Rattle.std.proofs.Common.{◌≡◌, ℕ, ◌+◌, List, [], ◌∷◌, ◌++◌, length, refl, sym, ap, ◌∙◌, subst, arith, append-nil, append_assoc}
+use Rattle.std.specs.Prelude.{not}
 use Rattle.std.proofs.lemmas.List.Elements.{filter-append}
 use Rattle.surf_kinds.specs.declared.event.Key.{Key}
+use Rattle.surf_kinds.specs.Keys.{is_before, ◌is_upto◌}
 use Rattle.lattice.specs.Places.{IsPlace}
-use Rattle.surface_state.specs.Standing.{Standing}
+use Rattle.surface_state.specs.SurfaceView.{SurfaceView}
 use Rattle.surface_state.specs.Changes.{undone, IsLeft, IsSecondOf, IsBelow}
-use Rattle.surface_state.proofs.Undoing.{left_applied, place_before, pair_before}
+use Rattle.surface_state.proofs.LawLemmas.{left_applied, place_before, pair_before}
 use Rattle.timeline.specs.declared.entry.Entry.{Entry}
-use Rattle.timeline.specs.Held.{is_below, below, from}
+use Rattle.timeline.specs.TimelineView.{entry_key, below, from, EndsBelow}
 use Rattle.timeline.specs.Led.{IsStep, LedTo}
 use Rattle.timeline.proofs.Rising.{Rise, rise_popped, below_skip, from_cons, all_below}
 use Rattle.timeline.proofs.Leading.{parted, step_undone}
 
 -- of the entries at first some are removed, all from the key on, and the surface is the one that stood before them
-pub record Undoing (key : Key) (first : List Entry) (start : Standing) (entries : List Entry) (now : Standing) (count : ℕ) : Type 0 where
+pub record Undoing (key : Key) (first : List Entry) (start : SurfaceView) (entries : List Entry) (now : SurfaceView) (count : ℕ) : Type 0 where
   pub removed : List Entry
   pub parts : first ≡ entries ++ removed
   pub none_below : below key removed ≡ []
   pub all_from : from key removed ≡ removed
   pub counted : count ≡ length removed
   pub rise : Rise entries
-  pub stood : (s : Standing) → LedTo s removed start → now ≡ s
+  pub stood : (s : SurfaceView) → LedTo s removed start → now ≡ s
 
-pub undoing_start : (key : Key) (first : List Entry) (start : Standing) → Rise first → Undoing key first start first start 0
-undoing_start key first start rise =
-    record { removed = []; parts = sym (append-nil first); none_below = refl; all_from = refl; counted = refl; rise = rise; stood = λ s led. led }
-
-pub undoing_more : (key : Key) (first : List Entry) (start : Standing) (entries less : List Entry) (now new : Standing) (count : ℕ) (e : Entry)
-    → Undoing key first start entries now count → entries ≡ less ++ e ∷ [] → is_below key e ≡ false → new ≡ undone now e.before
+pub undoing_more : (key : Key) (first : List Entry) (start : SurfaceView) (entries less : List Entry) (now new : SurfaceView) (count : ℕ) (e : Entry)
+    → Undoing key first start entries now count → entries ≡ less ++ e ∷ [] → key is_upto entry_key e → new ≡ undone now e.before
     → Undoing key first start less new (count + 1)
 undoing_more key first start entries less now new count e u last late back =
     record {
@@ -42,22 +38,22 @@ undoing_more key first start entries less now new count e u last late back =
       stood = λ s led. back ∙ (ap (λ t. undone t e.before) (u.stood led.0 led.2) ∙ step_undone s led.0 e led.1);
     }
 
-pub undoing_done : (key : Key) (first : List Entry) (start : Standing) (entries : List Entry) (now : Standing) (count : ℕ)
-    → Undoing key first start entries now count → IfSome (last_or None entries) (λ e. IsTrue (is_below key e))
-    → (entries ≡ below key first) × (count ≡ length (from key first)) × ((s : Standing) → LedTo s (from key first) start → now ≡ s)
+pub undoing_done : (key : Key) (first : List Entry) (start : SurfaceView) (entries : List Entry) (now : SurfaceView) (count : ℕ)
+    → Undoing key first start entries now count → EndsBelow key entries
+    → (entries ≡ below key first) × (count ≡ length (from key first)) × ((s : SurfaceView) → LedTo s (from key first) start → now ≡ s)
 undoing_done key first start entries now count u last =
-    let kept = all_below key entries u.rise last in
+    let whole = all_below key entries u.rise last in
     let cut : from key first ≡ u.removed =
-    ap (from key) u.parts ∙ (filter-append (λ x. not (is_below key x)) entries u.removed ∙ (ap (λ l. l ++ from key u.removed) kept.1 ∙ u.all_from)) in (
-      sym (ap (below key) u.parts ∙ (filter-append (is_below key) entries u.removed ∙ (ap (λ l. below key entries ++ l) u.none_below ∙ (append-nil (below key entries) ∙ kept.0)))),
+    ap (from key) u.parts ∙ (filter-append (λ x. not (is_before (entry_key x) key)) entries u.removed ∙ (ap (λ l. l ++ from key u.removed) whole.1 ∙ u.all_from)) in (
+      sym (ap (below key) u.parts ∙ (filter-append (λ x. is_before (entry_key x) key) entries u.removed ∙ (ap (λ l. below key entries ++ l) u.none_below ∙ (append-nil (below key entries) ∙ whole.0)))),
       u.counted ∙ ap length (sym cut),
       λ s led. u.stood s (subst (λ l. LedTo s l start) cut led),
     )
 
 -- the last entry was the last step to the surface
-last_step : (key : Key) (first : List Entry) (start base : Standing) (entries less : List Entry) (now : Standing) (count : ℕ) (e : Entry)
+last_step : (key : Key) (first : List Entry) (start base : SurfaceView) (entries less : List Entry) (now : SurfaceView) (count : ℕ) (e : Entry)
     → Undoing key first start entries now count → LedTo base first start → entries ≡ less ++ e ∷ []
-    → (s : Standing) × IsStep s e now
+    → (s : SurfaceView) × IsStep s e now
 last_step key first start base entries less now count e u led last =
     let all : LedTo base ((less ++ e ∷ []) ++ u.removed) start = subst (λ l. LedTo base l start) (u.parts ∙ ap (λ l. l ++ u.removed) last) led in
     let before = parted base start (less ++ e ∷ []) u.removed all in
@@ -66,19 +62,19 @@ last_step key first start base entries less now count e u led last =
     (step.0, subst (λ t. IsStep step.0 e t) (sym now_is) step.2.1)
 
 -- what `undo` needs
-pub record MayBeUndone (now : Standing) (e : Entry) : Type 0 where
+pub record MayBeUndone (now : SurfaceView) (e : Entry) : Type 0 where
   pub place : IsPlace now.lattice e.before.event.place.0
   pub pair : IsSecondOf now.lattice e.before.event.place.0 e.before.second
-  pub known : IsBelow now.kinds e.before
+  pub known : IsBelow now.species_count e.before
   pub left : IsLeft now e.before
 
-step_may : (s now : Standing) (e : Entry) → IsStep s e now → MayBeUndone now e
+step_may : (s now : SurfaceView) (e : Entry) → IsStep s e now → MayBeUndone now e
 step_may s now e step =
     subst (λ t. MayBeUndone t e) (sym step.left)
     (record { place = place_before s e.before step.stood; pair = pair_before s e.before step.stood; known = step.known; left = left_applied s e.before step.products step.stood })
 
 -- and so it may be undone
-pub last_may : (key : Key) (first : List Entry) (start base : Standing) (entries less : List Entry) (now : Standing) (count : ℕ) (e : Entry)
+pub last_may : (key : Key) (first : List Entry) (start base : SurfaceView) (entries less : List Entry) (now : SurfaceView) (count : ℕ) (e : Entry)
     → Undoing key first start entries now count → LedTo base first start → entries ≡ less ++ e ∷ []
     → MayBeUndone now e
 last_may key first start base entries less now count e u led last =

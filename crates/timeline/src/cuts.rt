@@ -1,10 +1,9 @@
 //! Cutting entries at a key, from the last on or from the first.
 
-ghost use Rattle.std.specs.Prelude.{◌≡◌, ◌++◌, ◌∷◌, [], length, false, None, IfSome, IfNone, IsTrue, vec_capacity};
-ghost use Rattle.std.specs.List.{last_or};
-ghost use Rattle.surf_kinds.specs.Keys.{RiseStrictly};
-ghost use Rattle.surface_state.specs.Standing.{Standing};
-ghost use Rattle.timeline.specs.Held.{events_of, is_below, below, from};
+ghost use Rattle.std.specs.Prelude.{◌≡◌, ◌++◌, ◌∷◌, [], length, IfSome, IfNone, vec_capacity};
+ghost use Rattle.surf_kinds.specs.Keys.{◌is_upto◌, RiseStrictly};
+ghost use Rattle.surface_state.specs.SurfaceView.{SurfaceView};
+ghost use Rattle.timeline.specs.TimelineView.{events_of, entry_key, below, from, EndsBelow};
 ghost use Rattle.timeline.specs.Led.{LedTo};
 
 use crate::entry::Entry;
@@ -14,13 +13,13 @@ use surface_state::Surface;
 /// Takes the last entry out, where its key is at least this one.
 fn pop_from(entries: &mut Vec<Entry>, key: Key) -> Option<Entry>
     ensures last { IfSome result (λ e. entries.old.items ≡ entries.new.items ++ e ∷ []) }
-    ensures from { IfSome result (λ e. is_below key e ≡ false) }
+    ensures from { IfSome result (λ e. key is_upto entry_key e) }
     ensures same { IfNone result (entries.new.items ≡ entries.old.items) }
-    ensures below { IfNone result (IfSome (last_or None entries.old.items) (λ e. IsTrue (is_below key e))) }
+    ensures below { IfNone result (EndsBelow key entries.old.items) }
     ensures capacity { vec_capacity entries.new ≡ vec_capacity entries.old }
 {
     let last = *entries.last()?;
-    if last.is_below(key) {
+    if last.key().is_before(key) {
         return None;
     }
     entries.pop()
@@ -29,12 +28,12 @@ fn pop_from(entries: &mut Vec<Entry>, key: Key) -> Option<Entry>
 /// Undoes and removes the entries from a key on, last first. Answers how many.
 pub(crate) fn undo_from(entries: &mut Vec<Entry>, key: Key, surface: &mut Surface) -> u64
     requires rise { RiseStrictly (events_of entries.old.items) }
-    requires led { (base : Standing) × LedTo base entries.old.items surface.old }
+    requires led { (base : SurfaceView) × LedTo base entries.old.items surface.old }
     ensures entries { entries.new.items ≡ below key entries.old.items }
     ensures answer { result ≡ length (from key entries.old.items) }
-    ensures surface { (stood : Standing) → LedTo stood (from key entries.old.items) surface.old → surface.new ≡ stood }
+    ensures surface { (stood : SurfaceView) → LedTo stood (from key entries.old.items) surface.old → surface.new ≡ stood }
     ensures lattice { surface.new.lattice ≡ surface.old.lattice }
-    ensures kinds { surface.new.kinds ≡ surface.old.kinds }
+    ensures species_count { surface.new.species_count ≡ surface.old.species_count }
     ensures capacity { vec_capacity entries.new ≡ vec_capacity entries.old }
 {
     let mut undone = 0;
@@ -50,5 +49,5 @@ pub(crate) fn forget_below(entries: &mut Vec<Entry>, key: Key)
     ensures entries { entries.new.items ≡ from key entries.old.items }
     ensures capacity { vec_capacity entries.new ≡ vec_capacity entries.old }
 {
-    entries.retain(|entry| !entry.is_below(key));
+    entries.retain(|entry| !entry.key().is_before(key));
 }

@@ -14,13 +14,13 @@ pub struct Entry {
 }
 
 impl Entry {
-    ghost use Rattle.timeline.specs.Held.{is_below};
+    ghost use Rattle.timeline.specs.TimelineView.{entry_key};
 
-    /// Whether the event's key is less than this one.
+    /// The key of the entry's event.
     #[inline]
-    pub(crate) fn is_below(&self, key: Key) -> bool
-        ensures { result ≡ is_below key self.now }
+    pub fn key(&self) -> Key
+        ensures { result ≡ entry_key self.now }
     {
-        self.before.event.key() < key
+        self.before.event.key()
     }
 }

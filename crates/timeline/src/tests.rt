@@ -1,10 +1,9 @@
-ghost use Rattle.std.specs.Prelude.{◌≡◌, ◌<◌, ◌^◌, None, OnOk, IfSome, IsTrue, slice_get};
-ghost use Rattle.std.specs.List.{last_or};
+ghost use Rattle.std.specs.Prelude.{◌≡◌, ◌<◌, ◌^◌, OnOk, IfSome, IsTrue, slice_get};
 ghost use Rattle.lattice.specs.Places.{IsPlace};
 ghost use Rattle.lattice.specs.Surface.{HasRoom};
 ghost use Rattle.surface_state.specs.Changes.{IsSecondOf, AreBelow};
-ghost use Rattle.surface_state.specs.Standing.{Standing};
-ghost use Rattle.timeline.specs.Held.{is_below};
+ghost use Rattle.surface_state.specs.SurfaceView.{SurfaceView};
+ghost use Rattle.timeline.specs.TimelineView.{EndsBelow};
 ghost use Rattle.timeline.specs.Led.{LedTo};
 
 use super::*;
@@ -39,7 +38,7 @@ fn state_at(surface: &Surface, site: u32) -> Option<SiteState> {
 
 /// How many sites have a species, where the surface has it.
 fn count_of(surface: &Surface, species: SpeciesId) -> Option<u32> {
-    if u32::from(species.0) < surface.kinds() {
+    if u32::from(species.0) < surface.species_count() {
         Some(surface.count(species))
     } else {
         None
@@ -65,30 +64,32 @@ fn has_room(surface: &Surface, site: SiteId) -> bool
 fn fits(surface: &Surface, place: Place, to: (SpeciesId, Option<SpeciesId>)) -> bool
     ensures place { IsTrue result → IsPlace surface.now.lattice place.0 }
     ensures pair { IsTrue result → IsSecondOf surface.now.lattice place.0 to.1 }
-    ensures species { IsTrue result → AreBelow surface.now.kinds to.0 to.1 }
+    ensures species { IsTrue result → AreBelow surface.now.species_count to.0 to.1 }
     ensures room { IsTrue result → HasRoom surface.now.lattice surface.now.sites place.0 }
 {
     let Some(sites) = surface.lattice().sites_of(place) else {
         return false;
     };
-    let kinds = surface.kinds();
-    let first = u32::from(to.0.0) < kinds && has_room(surface, sites.first);
+    let species_count = surface.species_count();
+    let first = u32::from(to.0.0) < species_count && has_room(surface, sites.first);
     match sites.second {
         None => to.1.is_none() && first,
         Some(second) => match to.1 {
             None => false,
-            Some(species) => first && u32::from(species.0) < kinds && has_room(surface, second),
+            Some(species) => first
+                && u32::from(species.0) < species_count
+                && has_room(surface, second),
         },
     }
 }
 
 /// Whether all entries, of which the last one is looked at, are below the key.
 fn ends_below(entries: &[Entry], key: Key) -> bool
-    ensures { IsTrue result → IfSome (last_or None entries.now) (λ e. IsTrue (is_below key e)) }
+    ensures { IsTrue result → EndsBelow key entries.now }
 {
     match entries.last() {
         None => true,
-        Some(last) => last.is_below(key),
+        Some(last) => last.key().is_before(key),
     }
 }
 
@@ -100,12 +101,10 @@ fn act<R: Abort>(
     event: Event,
     to: (SpeciesId, Option<SpeciesId>),
 ) -> Result<(), NoMemory>
-    requires { (base : Standing) × LedTo base timeline.old.entries surface.old }
-    ensures { OnOk result ((base : Standing) × LedTo base timeline.new.entries surface.new) }
+    requires { (base : SurfaceView) × LedTo base timeline.old.entries surface.old }
+    ensures { OnOk result ((base : SurfaceView) × LedTo base timeline.new.entries surface.new) }
 {
-    let Ok(()) = timeline.reserve(1) else {
-        return Err(NoMemory);
-    };
+    timeline.reserve(1)?;
     assert!(rt; fits(surface, event.place, to));
     assert!(rt; ends_below(timeline.entries(), event.key()));
     let before = surface.apply(event, to);
@@ -113,7 +112,7 @@ fn act<R: Abort>(
     Ok(())
 }
 
-fn needs_send<T: Send>(value: T) -> T
+fn needs_both<T: Send + Sync>(value: T) -> T
     ensures { result ≡ value }
 {
     value
@@ -123,7 +122,7 @@ fn needs_send<T: Send>(value: T) -> T
 fn a_key_brings_back_what_stood_before_it(rt: HostRuntime) -> Result<(), Fail> {
     let lattice = Lattice::new(Kind::Square, 1, 3, false)?;
     let mut surface = Surface::new(rt.alloc(), lattice, &[B, A, B], 3)?;
-    let mut timeline = needs_send(Timeline::new(rt.alloc()));
+    let mut timeline = needs_both(Timeline::new(rt.alloc()));
     act(&rt, &mut timeline, &mut surface, event(1, 1), (C, Some(A)))?;
     act(&rt, &mut timeline, &mut surface, event(2, 9), (B, Some(C)))?;
     act(&rt, &mut timeline, &mut surface, event(3, 0), (A, None))?;

@@ -2,8 +2,8 @@
 
 ghost use Rattle.std.specs.Prelude.{◌≡◌, ◌+◌, ◌<◌, ◌≤◌, ◌++◌, ◌∷◌, [], length, OnOk, OnErr};
 ghost use Rattle.surf_kinds.specs.Keys.{RiseStrictly};
-ghost use Rattle.surface_state.specs.Standing.{Standing};
-ghost use Rattle.timeline.specs.Held.{events_of, below, from, IsLater};
+ghost use Rattle.surface_state.specs.SurfaceView.{SurfaceView};
+ghost use Rattle.timeline.specs.TimelineView.{events_of, below, from, IsLater};
 ghost use Rattle.timeline.specs.Led.{LedTo};
 
 use crate::cuts::{forget_below, undo_from};
@@ -22,9 +22,9 @@ pub struct Timeline {
 impl Model for Timeline {
     ghost use Rattle.std.specs.Prelude.{◌-◌, ◌≤◌, length, vec_capacity};
     ghost use Rattle.surf_kinds.specs.Keys.{RiseStrictly};
-    ghost use Rattle.timeline.specs.Held.{Held, events_of};
+    ghost use Rattle.timeline.specs.TimelineView.{TimelineView, events_of};
 
-    ghost Value = { Held };
+    ghost Value = { TimelineView };
 
     ghost view = { λ t. record { entries = t.entries.items; spare = vec_capacity t.entries - length t.entries.items } };
 
@@ -45,14 +45,12 @@ impl Timeline {
     pub fn reserve(&mut self, more: u32) -> Result<(), NoMemory>
         ensures entries { self.new.entries ≡ self.old.entries }
         ensures room { OnOk result (more ≤ self.new.spare) }
-        ensures kept { self.old.spare ≤ self.new.spare }
+        ensures no_less { self.old.spare ≤ self.new.spare }
         ensures full { OnErr result (self.old.spare < more) }
         ensures err { OnErr result (self.new ≡ self.old) }
     {
-        match self.entries.reserve(more as usize) {
-            Ok(()) => Ok(()),
-            Err(_) => Err(NoMemory),
-        }
+        self.entries.reserve(more as usize)?;
+        Ok(())
     }
 
     /// Puts an entry last, in the room that was made. Takes a constant time.
@@ -69,13 +67,13 @@ impl Timeline {
     /// that the entries led to, and becomes the one that stood before those that are removed. Takes a time that goes
     /// with their number.
     pub fn back_to(&mut self, key: Key, surface: &mut Surface) -> u64
-        requires { (base : Standing) × LedTo base self.old.entries surface.old }
+        requires { (base : SurfaceView) × LedTo base self.old.entries surface.old }
         ensures entries { self.new.entries ≡ below key self.old.entries }
         ensures answer { result ≡ length (from key self.old.entries) }
-        ensures stood { (stood : Standing) → LedTo stood (from key self.old.entries) surface.old → surface.new ≡ stood }
-        ensures led { (base : Standing) → LedTo base self.old.entries surface.old → LedTo base self.new.entries surface.new }
+        ensures stood { (stood : SurfaceView) → LedTo stood (from key self.old.entries) surface.old → surface.new ≡ stood }
+        ensures led { (base : SurfaceView) → LedTo base self.old.entries surface.old → LedTo base self.new.entries surface.new }
         ensures lattice { surface.new.lattice ≡ surface.old.lattice }
-        ensures kinds { surface.new.kinds ≡ surface.old.kinds }
+        ensures species_count { surface.new.species_count ≡ surface.old.species_count }
         ensures spare { self.new.spare ≡ self.old.spare + result }
     {
         undo_from(&mut self.entries, key, surface)
@@ -85,7 +83,7 @@ impl Timeline {
     /// all entries.
     pub fn drop_below(&mut self, key: Key)
         ensures entries { self.new.entries ≡ from key self.old.entries }
-        ensures led { (base now : Standing) → LedTo base self.old.entries now → (mid : Standing) × LedTo base (below key self.old.entries) mid × LedTo mid self.new.entries now }
+        ensures led { (base now : SurfaceView) → LedTo base self.old.entries now → (mid : SurfaceView) × LedTo base (below key self.old.entries) mid × LedTo mid self.new.entries now }
         ensures spare { self.new.spare ≡ self.old.spare + length (below key self.old.entries) }
     {
         forget_below(&mut self.entries, key);

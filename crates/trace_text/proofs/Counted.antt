@@ -1,15 +1,13 @@
 -- The counts of the species sum to the number of sites.
-use Rattle.std.proofs.Common.{◌≡◌, ℕ, zero, suc, ◌+◌, ◌*◌, ◌<◌, ◌≤◌, ◌==◌, cond, List, [], ◌∷◌, length, refl, sym, ap, subst, ◌∙◌, arith, inl, inr}
+use Rattle.std.proofs.Common.{◌≡◌, ℕ, zero, suc, ◌+◌, ◌<◌, ◌≤◌, ◌==◌, cond, List, [], ◌∷◌, length, refl, sym, ap, subst, ◌∙◌, arith, inl, inr}
 use Rattle.std.specs.Prelude.{All, sum}
 use Rattle.std.specs.List.{range_with_len, sum_by}
 use Rattle.std.proofs.lemmas.Bool.{cases_lt}
 use Rattle.std.proofs.lemmas.Bool.Decides.{nat_tests}
-use Rattle.std.proofs.lemmas.List.{length-map}
 use Rattle.std.proofs.lemmas.List.Elements.{All-head, All-tail}
 use Rattle.std.proofs.lemmas.List.Sums.{sum_by-cons, sum-map}
 use Rattle.surf_kinds.specs.declared.site.SiteState.{SiteState}
 use Rattle.surf_kinds.specs.declared.site.SpeciesId.{SpeciesId}
-use Rattle.lattice.specs.Shape.{Shape}
 use Rattle.trace_text.specs.Lines.{cells_of, count_of, counts_of}
 
 -- one at the species' own number, and none at the others
@@ -62,25 +60,15 @@ site-counted s sites (k ∷ ks) =
     let counts = sum_by-cons (count_of sites) k ks in
     sum_by-cons (count_of (s ∷ sites)) k ks ∙ omega (arith, here, there, ones, counts)
 
-all-counted : (sites : List SiteState) (kinds : ℕ) → All (λ (s : SpeciesId). s.0 < kinds) (cells_of sites) → sum_by (count_of sites) (range_with_len 0 kinds) ≡ length sites
-all-counted [] kinds below = none-counted (range_with_len 0 kinds)
-all-counted (s ∷ sites) kinds below =
-    let P : SpeciesId → Type 0 = λ s. s.0 < kinds in
-    let first : s.species.0 < kinds = All-head P s.species (cells_of sites) below in
-    let one = one-among s.species.0 0 kinds (omega arith) (omega (arith, first)) in
-    let rest = all-counted sites kinds (All-tail P s.species (cells_of sites) below) in
-    site-counted s sites (range_with_len 0 kinds) ∙ omega (arith, one, rest)
+all-counted : (sites : List SiteState) (species_count : ℕ) → All (λ (s : SpeciesId). s.0 < species_count) (cells_of sites) → sum_by (count_of sites) (range_with_len 0 species_count) ≡ length sites
+all-counted [] species_count below = none-counted (range_with_len 0 species_count)
+all-counted (s ∷ sites) species_count below =
+    let P : SpeciesId → Type 0 = λ s. s.0 < species_count in
+    let first : s.species.0 < species_count = All-head P s.species (cells_of sites) below in
+    let one = one-among s.species.0 0 species_count (omega arith) (omega (arith, first)) in
+    let rest = all-counted sites species_count (All-tail P s.species (cells_of sites) below) in
+    site-counted s sites (range_with_len 0 species_count) ∙ omega (arith, one, rest)
 
 -- each site is counted once
-pub counted : (sites : List SiteState) (cells : List SpeciesId) (kinds n : ℕ) (l m : Shape)
-    → cells ≡ cells_of sites → All (λ (s : SpeciesId). s.0 < kinds) cells → length cells ≡ l.rows * l.cols → kinds ≡ n → l ≡ m
-    → sum (counts_of sites n) ≡ m.rows * m.cols
-counted sites cells kinds n l m is below long same_kinds same_lattice =
-    let P : ℕ → List SpeciesId → Type 0 = λ k cs. All (λ (s : SpeciesId). s.0 < k) cs in
-    let known : P n (cells_of sites) = subst (λ k. P k (cells_of sites)) same_kinds (subst (P kinds) is below) in
-    sum-map (count_of sites) (range_with_len 0 n)
-    ∙ all-counted sites n known
-    ∙ sym (length-map sites (λ (s : SiteState). s.species))
-    ∙ ap length (sym is)
-    ∙ long
-    ∙ ap (λ (x : Shape). x.rows * x.cols) same_lattice
+pub sum-counts_of : (n : ℕ) (sites : List SiteState) → All (λ (s : SpeciesId). s.0 < n) (cells_of sites) → sum (counts_of sites n) ≡ length sites
+sum-counts_of n sites below = sum-map (count_of sites) (range_with_len 0 n) ∙ all-counted sites n below

@@ -1,3 +1,4 @@
-pub mod Texts
-pub mod Below
-pub mod Counted
+mod Texts
+mod Below
+mod Counted
+pub mod LawLemmas

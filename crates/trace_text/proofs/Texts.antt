@@ -4,13 +4,15 @@ use Rattle.std.specs.Prelude.{decimal, codes, slice_index_or, length}
 use Rattle.std.specs.List.{flat_map, range_with_len}
 use Rattle.surf_kinds.specs.declared.event.Event.{Event}
 use Rattle.surf_kinds.specs.declared.site.SiteState.{SiteState}
+use Rattle.surf_kinds.specs.Channels.{rule_of_channel, way_of_channel}
+use Rattle.surf_kinds.specs.Steps.{site_of_place, step_of_place}
 use Rattle.lattice.specs.Shape.{Shape}
 use Rattle.surface_rows.specs.Rows.{rows_text}
 use Rattle.trace_text.specs.Lines.{direction, event_text, heading_text, cells_of, count_of, count_text, counts_text, surface_text, end_text, limit_text}
 
 pub event-is : (cols : ℕ) (e : Event) (line : List ℕ)
-    → line ≡ codes "event " ++ (decimal e.time ++ (codes " " ++ (decimal (e.place.0 / 8 / cols) ++ (codes " " ++ (decimal (e.place.0 / 8 % cols) ++ (codes " "
-    ++ (direction (e.place.0 % 8) ++ (codes " " ++ (decimal (e.channel / 2) ++ (codes " " ++ (decimal (e.channel % 2) ++ 10 ∷ [])))))))))))
+    → line ≡ codes "event " ++ (decimal e.time ++ (codes " " ++ (decimal (site_of_place e.place.0 / cols) ++ (codes " " ++ (decimal (site_of_place e.place.0 % cols) ++ (codes " "
+    ++ (direction (step_of_place e.place.0) ++ (codes " " ++ (decimal (rule_of_channel e.channel) ++ (codes " " ++ (decimal (way_of_channel e.channel) ++ 10 ∷ [])))))))))))
     → line ≡ event_text cols e
 unfolding event_text
 event-is cols e line is = simp append_assoc is

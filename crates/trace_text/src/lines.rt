@@ -1,50 +1,52 @@
 //! The lines of a run.
 
-ghost use Rattle.std.specs.Prelude.{◌≡◌, ◌*◌, ◌/◌, ◌^◌, ◌<◌, ◌≤◌, ◌∷◌, length, sum, OnOk, OnErr};
+ghost use Rattle.std.specs.Prelude.{◌≡◌, ◌^◌, ◌<◌, ◌≤◌, ◌∷◌, length, OnOk, OnErr};
 ghost use Rattle.std.specs.Io.KnownBytes.{Appends};
 ghost use Rattle.surf_outside.specs.Causes.{HasCause};
 ghost use Rattle.surf_outside.specs.Known.{AppendsPrefix};
+ghost use Rattle.surf_kinds.specs.Steps.{site_of_place};
 ghost use Rattle.lattice.specs.Places.{IsPlace};
-ghost use Rattle.surface_rows.specs.Puts.{Puts};
-ghost use Rattle.surface_rows.specs.Rows.{name_of};
-ghost use Rattle.trace_text.specs.Lines.{direction as direction_text, event_text, heading_text, counts_of, count_text, counts_text, surface_text, end_text, limit_text};
+ghost use Rattle.surf_outside.specs.Puts.{Puts};
+ghost use Rattle.surface_rows.specs.Rows.{name_of, rows_text};
+ghost use Rattle.trace_text.specs.Lines.{direction as direction_text, event_text, heading_text, cells_of, count_text, counts_text, surface_text, end_text, limit_text};
 
 use crate::line::Line;
 use lattice::Lattice;
 use species::Names;
-use surf_kinds::{Event, SpeciesId};
-use surf_outside::{Failed, Sink};
-use surface_rows::{put, write_rows};
+use surf_kinds::{Event, SpeciesId, Step, rule_of_channel, way_of_channel};
+use surf_outside::{Failed, Sink, put};
+use surface_rows::{name_bytes, write_rows};
 use surface_state::Surface;
 
-/// The direction of a place from its first site.
+/// The direction of a place from its first site; a number that is no place has none.
 #[inline]
-fn direction(remainder: u64) -> &'static str
-    ensures text { result.now ≡ direction_text remainder }
+fn direction(step: Option<Step>) -> &'static str
+    ensures text { result.now ≡ direction_text step }
     ensures short { length result.now ≤ 9 }
 {
-    match remainder {
-        0 => "self",
-        1 => "east",
-        2 => "south",
-        _ => "southwest",
+    match step {
+        Some(Step::Alone) => "self",
+        Some(Step::East) => "east",
+        Some(Step::South) => "south",
+        Some(Step::SouthWest) => "southwest",
+        None => "",
     }
 }
 
 /// The line of an event, on a lattice of so many columns.
 fn event_line(cols: u32, event: Event) -> Line
     requires cols { 0 < cols }
-    requires site { event.place.0 / 8 < 2 ^ 32 }
+    requires site { site_of_place event.place.0 < 2 ^ 32 }
     ensures { result ≡ event_text cols event }
 {
-    let site = (event.place.0 / 8) as u32;
+    let site = event.place.site() as u32;
     let mut line = Line::new();
     line.text(b"\n");
-    line.number(u64::from(event.channel % 2));
+    line.number(u64::from(way_of_channel(event.channel)));
     line.text(b" ");
-    line.number(u64::from(event.channel / 2));
+    line.number(u64::from(rule_of_channel(event.channel)));
     line.text(b" ");
-    line.text(direction(event.place.0 % 8).as_bytes());
+    line.text(direction(event.place.step()).as_bytes());
     line.text(b" ");
     line.number(u64::from(site % cols));
     line.text(b" ");
@@ -58,8 +60,8 @@ fn event_line(cols: u32, event: Event) -> Line
 /// Writes the line of an event. After a fault of the sink a prefix of it was written, here and in the other calls.
 pub fn write_event<O: Sink>(out: &mut O, lattice: &Lattice, event: Event) -> Result<(), Failed>
     requires { IsPlace lattice.now event.place.0 }
-    ensures ok { OnOk result (Appends (O.held out.old) (O.held out.new) (event_text lattice.now.cols event)) }
-    ensures err { OnErr result (AppendsPrefix (O.held out.old) (O.held out.new) (event_text lattice.now.cols event)) }
+    ensures ok { OnOk result (Appends (O.written out.old) (O.written out.new) (event_text lattice.now.cols event)) }
+    ensures err { OnErr result (AppendsPrefix (O.written out.old) (O.written out.new) (event_text lattice.now.cols event)) }
     ensures cause { HasCause (O.faults out.old) (O.faults out.new) result }
 {
     let line = event_line(lattice.cols(), event);
@@ -68,7 +70,7 @@ pub fn write_event<O: Sink>(out: &mut O, lattice: &Lattice, event: Event) -> Res
 
 /// Writes the first line of a surface.
 fn write_heading<O: Sink>(out: &mut O, tick: u64, events: u64) -> Result<(), Failed>
-    ensures { Puts (O.held out.old) (O.held out.new) (O.faults out.old) (O.faults out.new) (heading_text tick events) result }
+    ensures { Puts (O.written out.old) (O.written out.new) (O.faults out.old) (O.faults out.new) (heading_text tick events) result }
 {
     let line = Line::pair(b"surface ", tick, events);
     put(out, line.bytes())
@@ -77,10 +79,10 @@ fn write_heading<O: Sink>(out: &mut O, tick: u64, events: u64) -> Result<(), Fai
 /// Writes the name of a species, with a space before it.
 fn write_name<O: Sink>(out: &mut O, names: &Names, species: SpeciesId) -> Result<(), Failed>
     requires { species.0 < length names.now }
-    ensures { Puts (O.held out.old) (O.held out.new) (O.faults out.old) (O.faults out.new) (32 ∷ name_of names.now species) result }
+    ensures { Puts (O.written out.old) (O.written out.new) (O.faults out.old) (O.faults out.new) (32 ∷ name_of names.now species) result }
 {
     put(out, b" ")?;
-    put(out, names.name(species).as_bytes())
+    put(out, name_bytes(names, species))
 }
 
 /// Writes a species with its count.
@@ -90,9 +92,9 @@ fn write_count<O: Sink>(
     surface: &Surface,
     species: SpeciesId,
 ) -> Result<(), Failed>
-    requires kinds { surface.now.kinds ≡ length names.now }
+    requires species_count { surface.now.species_count ≡ length names.now }
     requires species { species.0 < length names.now }
-    ensures { Puts (O.held out.old) (O.held out.new) (O.faults out.old) (O.faults out.new) (count_text names.now surface.now.sites species.0) result }
+    ensures { Puts (O.written out.old) (O.written out.new) (O.faults out.old) (O.faults out.new) (count_text names.now surface.now.sites species.0) result }
 {
     write_name(out, names, species)?;
     let mut line = Line::new();
@@ -103,17 +105,32 @@ fn write_count<O: Sink>(
 
 /// Writes the line of the counts.
 fn write_counts<O: Sink>(out: &mut O, names: &Names, surface: &Surface) -> Result<(), Failed>
-    requires { surface.now.kinds ≡ length names.now }
-    ensures { Puts (O.held out.old) (O.held out.new) (O.faults out.old) (O.faults out.new) (counts_text names.now surface.now.sites) result }
+    requires { surface.now.species_count ≡ length names.now }
+    ensures { Puts (O.written out.old) (O.written out.new) (O.faults out.old) (O.faults out.new) (counts_text names.now surface.now.sites) result }
 {
     put(out, b"counts")?;
-    for kind in 0..surface.kinds() {
-        write_count(out, names, surface, SpeciesId(kind as u16))?;
+    for species in 0..surface.species_count() {
+        write_count(out, names, surface, SpeciesId(species as u16))?;
     }
     put(out, b"\n")
 }
 
-/// Writes a surface: its tick with the number of events so far, its rows, and how many sites each species has.
+/// Writes the rows of a surface.
+fn write_surface_rows<O: Sink>(
+    out: &mut O,
+    names: &Names,
+    lattice: &Lattice,
+    surface: &Surface,
+) -> Result<(), Failed>
+    requires lattice { surface.now.lattice ≡ lattice.now }
+    requires species_count { surface.now.species_count ≡ length names.now }
+    ensures { Puts (O.written out.old) (O.written out.new) (O.faults out.old) (O.faults out.new) (rows_text names.now lattice.now.rows lattice.now.cols (cells_of surface.now.sites)) result }
+{
+    write_rows(out, names, lattice.rows(), lattice.cols(), surface.cells())
+}
+
+/// Writes a surface: its tick with the number of events so far, its rows, and how many sites each species has. Each
+/// name goes out by a call of its own, so this takes no memory, however large the surface.
 pub fn write_surface<O: Sink>(
     out: &mut O,
     names: &Names,
@@ -123,22 +140,20 @@ pub fn write_surface<O: Sink>(
     events: u64,
 ) -> Result<(), Failed>
     requires lattice { surface.now.lattice ≡ lattice.now }
-    requires kinds { surface.now.kinds ≡ length names.now }
-    ensures ok { OnOk result (Appends (O.held out.old) (O.held out.new) (surface_text names.now lattice.now surface.now.sites tick events)) }
-    ensures err { OnErr result (AppendsPrefix (O.held out.old) (O.held out.new) (surface_text names.now lattice.now surface.now.sites tick events)) }
+    requires species_count { surface.now.species_count ≡ length names.now }
+    ensures ok { OnOk result (Appends (O.written out.old) (O.written out.new) (surface_text names.now lattice.now surface.now.sites tick events)) }
+    ensures err { OnErr result (AppendsPrefix (O.written out.old) (O.written out.new) (surface_text names.now lattice.now surface.now.sites tick events)) }
     ensures cause { HasCause (O.faults out.old) (O.faults out.new) result }
-    ensures counted { sum (counts_of surface.now.sites (length names.now)) ≡ lattice.now.rows * lattice.now.cols }
 {
-    let cells = surface.cells();
     write_heading(out, tick, events)?;
-    write_rows(out, names, lattice.rows(), lattice.cols(), cells)?;
+    write_surface_rows(out, names, lattice, surface)?;
     write_counts(out, names, surface)
 }
 
 /// Writes the last line of a run: its duration in ticks, and the number of its events.
 pub fn write_end<O: Sink>(out: &mut O, until: u64, events: u64) -> Result<(), Failed>
-    ensures ok { OnOk result (Appends (O.held out.old) (O.held out.new) (end_text until events)) }
-    ensures err { OnErr result (AppendsPrefix (O.held out.old) (O.held out.new) (end_text until events)) }
+    ensures ok { OnOk result (Appends (O.written out.old) (O.written out.new) (end_text until events)) }
+    ensures err { OnErr result (AppendsPrefix (O.written out.old) (O.written out.new) (end_text until events)) }
     ensures cause { HasCause (O.faults out.old) (O.faults out.new) result }
 {
     let line = Line::pair(b"end ", until, events);
@@ -147,8 +162,8 @@ pub fn write_end<O: Sink>(out: &mut O, until: u64, events: u64) -> Result<(), Fa
 
 /// Writes the last line of a run that has more events than the limit.
 pub fn write_limit<O: Sink>(out: &mut O, limit: u64) -> Result<(), Failed>
-    ensures ok { OnOk result (Appends (O.held out.old) (O.held out.new) (limit_text limit)) }
-    ensures err { OnErr result (AppendsPrefix (O.held out.old) (O.held out.new) (limit_text limit)) }
+    ensures ok { OnOk result (Appends (O.written out.old) (O.written out.new) (limit_text limit)) }
+    ensures err { OnErr result (AppendsPrefix (O.written out.old) (O.written out.new) (limit_text limit)) }
     ensures cause { HasCause (O.faults out.old) (O.faults out.new) result }
 {
     let mut line = Line::new();

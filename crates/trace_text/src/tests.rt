@@ -2,7 +2,7 @@ use super::*;
 use lattice::{Kind, Lattice};
 use species::Names;
 use std::test::Fail;
-use surf_kinds::{Event, Place};
+use surf_kinds::{Event, Place, SiteId, SpeciesId, Step};
 use surf_outside::MemSink;
 use surface_state::Surface;
 
@@ -10,16 +10,19 @@ use surface_state::Surface;
 fn an_event_has_a_line(rt: HostRuntime) -> Result<(), Fail> {
     let lattice = Lattice::new(Kind::Hex, 12, 34, true)?;
     // Row 7 and column 20.
-    let site = 7 * 34 + 20;
-    for (direction, line) in [
-        (0, "event 1000000000000000 7 20 self 4095 0\n"),
-        (1, "event 1000000000000000 7 20 east 4095 0\n"),
-        (2, "event 1000000000000000 7 20 south 4095 0\n"),
-        (3, "event 1000000000000000 7 20 southwest 4095 0\n"),
+    let site = SiteId(7 * 34 + 20);
+    for (step, line) in [
+        (Step::Alone, "event 1000000000000000 7 20 self 4095 0\n"),
+        (Step::East, "event 1000000000000000 7 20 east 4095 0\n"),
+        (Step::South, "event 1000000000000000 7 20 south 4095 0\n"),
+        (
+            Step::SouthWest,
+            "event 1000000000000000 7 20 southwest 4095 0\n",
+        ),
     ] {
         let event = Event {
             time: 1_000_000_000_000_000,
-            place: Place(8 * site + direction),
+            place: Place::at(site, step),
             channel: 8190,
         };
         assert!(rt; lattice.sites_of(event.place).is_some());
@@ -52,5 +55,14 @@ fn a_run_ends_or_meets_its_limit(rt: HostRuntime) -> Result<(), Fail> {
     write_limit(&mut sink, 0)?;
     let text = "end 100 18446744073709551615\nlimit 0\n";
     assert_eq!(rt; sink.bytes(), text.as_bytes());
+    Ok(())
+}
+
+#[test]
+fn the_laws_are_calls(rt: HostRuntime) -> Result<(), Fail> {
+    laws::each_site_is_counted_once();
+    let lattice = Lattice::new(Kind::Square, 1, 1, false)?;
+    let surface = Surface::new(rt.alloc(), lattice, &[SpeciesId(0)], 1)?;
+    laws::counts_are_whole(&surface);
     Ok(())
 }

@@ -1,4 +1,4 @@
-use Rattle.border.proofs.Cutting.{rise-replay, replay-append}
+use Rattle.border.proofs.Replays.{rise-replay, replay-append}
 use Rattle.border.proofs.laws.messages_are_replayed_in_order.Goals as goal
 
 pub returns-clause-parts : goal.returns-clause-parts

@@ -1,6 +1,6 @@
 use Rattle.std.proofs.Common.{arith, ◌≡◌, ◌++◌, ◌∷◌, []}
 use Rattle.std.proofs.lemmas.Grind.{common_steps}
-use Rattle.border.specs.Keys.{below, key_of}
+use Rattle.surf_kinds.specs.Keys.{below, key_of}
 use Rattle.border.proofs.Cutting.{rise-put}
 use Rattle.border.proofs.stacks.replay_on.Goals as goal
 

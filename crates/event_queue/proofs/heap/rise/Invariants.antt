@@ -1,12 +1,12 @@
 use Rattle.std.proofs.Common.{◌≡◌, ◌<◌, length}
-use Rattle.event_queue.specs.Heap.{AreInverse, IsAboveOthers, IsHeapBut, filled, kept_with, told}
+use Rattle.event_queue.specs.Heap.{AreInverse, IsAboveOthers, IsHeapBut, filled, kept_with, located}
 use Rattle.event_queue.proofs.heap.rise.Given as goal
 
 abbrev pub invariant-loop-at : goal.invariant-loop-at
 invariant-loop-at l = record {
   long : length l.heap ≡ length l.initial.heap;
   within : l.at < length l.initial.heap;
-  inverse : AreInverse (filled l.heap l.at l.entry) (told l.positions l.at l.entry);
+  inverse : AreInverse (filled l.heap l.at l.entry) (located l.positions l.at l.entry);
   heap : IsHeapBut (filled l.heap l.at l.entry) (length l.initial.heap) l.at;
   above : IsAboveOthers (filled l.heap l.at l.entry) (length l.initial.heap) l.at;
   kept : kept_with l.heap l.positions l.at l.entry ≡ kept_with l.initial.heap l.initial.positions l.from l.entry;

@@ -1,5 +1,5 @@
 use Rattle.std.proofs.Common.{ap, length, arith}
-use Rattle.manifest_read.proofs.WordLists.{words-few}
+use Rattle.surf_text.proofs.LawLemmas.{words-few}
 use Rattle.manifest_read.proofs.names.count_words.Goals as goal
 
 pub loop-count-init : goal.loop-count-init

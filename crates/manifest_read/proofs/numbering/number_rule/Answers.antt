@@ -3,7 +3,7 @@ use Rattle.surf_kinds.specs.Rates.{Fraction}
 use Rattle.surf_kinds.specs.declared.rule.Rule.TheVariants.{Two}
 use Rattle.surf_kinds.specs.declared.site.SpeciesId.{SpeciesId}
 use Rattle.species.specs.Names.{with_name, place_of}
-use Rattle.manifest_read.proofs.Cells.{place-more, kept-more, kept-itself}
+use Rattle.manifest_read.proofs.Cells.{place-more, listed-more, listed-itself}
 use Rattle.manifest_read.proofs.numbering.number_rule.Goals as goal
 
 same : (r r' : Fraction) (a a' b b' c c' d d' : SpeciesId) → r ≡ r' → a ≡ a' → b ≡ b' → c ≡ c' → d ≡ d' → Two r a b c d ≡ Two r' a' b' c' d'
@@ -12,11 +12,11 @@ same r r' a a' b b' c c' d d' e f g h i = cc
 later : (known names after : List (List ℕ)) (a b c d : List ℕ) → names ≡ with_name (with_name known a) b → after ≡ with_name (with_name names c) d
     → (place_of names a ≡ place_of after a) × (place_of names b ≡ place_of after b)
 later known names after a b c d e f =
-    let first = kept-more (with_name known a) b a (kept-itself known a) in
-    let second = kept-itself (with_name known a) b in
+    let first = listed-more (with_name known a) b a (listed-itself known a) in
+    let second = listed-itself (with_name known a) b in
     rw (f, e) (
-      sym (place-more (with_name (with_name (with_name known a) b) c) d a (kept-more _ c a first) ∙ place-more _ c a first),
-      sym (place-more (with_name (with_name (with_name known a) b) c) d b (kept-more _ c b second) ∙ place-more _ c b second),
+      sym (place-more (with_name (with_name (with_name known a) b) c) d a (listed-more _ c a first) ∙ place-more _ c a first),
+      sym (place-more (with_name (with_name (with_name known a) b) c) d b (listed-more _ c b second) ∙ place-more _ c b second),
     )
 
 pub returns-in-Ok-both-2-clause-rule : goal.returns-in-Ok-both-2-clause-rule

@@ -1,5 +1,5 @@
 use Rattle.std.proofs.Common.{rules, sym, ap, ◌∙◌, ◌==◌}
-use Rattle.surf_text.proofs.Places.{cut-shorter_at}
+use Rattle.surf_text.proofs.LawLemmas.{cut-shorter_at}
 use Rattle.manifest_read.specs.Names.{is_name}
 use Rattle.manifest_read.proofs.Pieces.{names-bad, names-next, names-last}
 use Rattle.manifest_read.proofs.rules.are_names.Goals as goal

@@ -1,6 +1,6 @@
 use Rattle.std.proofs.Common.{lit≤}
-use Rattle.rates.proofs.Fractions.{one_over_reduced}
-use Rattle.surf_kinds.proofs.Wholes.{whole_reduced}
+use Rattle.surf_kinds.proofs.Fractions.{one_over_reduced}
+use Rattle.surf_kinds.proofs.Fractions.{whole_reduced}
 use Rattle.manifest_read.proofs.tests.rules_rows_and_colours_are_read.Goals as goal
 
 pub invariant_of-two : goal.invariant_of-two

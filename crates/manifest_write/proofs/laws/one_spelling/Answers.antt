@@ -1,4 +1,4 @@
-use Rattle.manifest_write.proofs.OneSpelling.{same-text}
+use Rattle.manifest_write.proofs.Again.OneSpelling.{same-text}
 use Rattle.manifest_write.proofs.laws.one_spelling.Goals as goal
 
 pub returns : goal.returns

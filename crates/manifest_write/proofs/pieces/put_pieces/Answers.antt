@@ -1,7 +1,7 @@
 use Rattle.std.proofs.Common.{◌+◌, ℕ, List, [], drop, Bor}
 use Rattle.std.specs.List.{flat_map}
-use Rattle.surface_rows.proofs.Sequences.{puts_as, exits_after}
-use Rattle.manifest_write.proofs.Loops.{parts-within}
+use Rattle.surf_outside.proofs.LawLemmas.{puts_as, fails_behind}
+use Rattle.manifest_write.proofs.Spellings.Loops.{parts-within}
 use Rattle.manifest_write.proofs.pieces.put_pieces.Goals as goal
 
 pub returns-in_err-put : goal.returns-in_err-put
@@ -10,4 +10,4 @@ returns-in_err-put g c =
     let pieces = c.args.pieces.now in
     let i = c.loop-piece.piece-index in
     puts_as (flat_map text pieces) (parts-within text pieces i (record { ref_ptr = (0, 0); now = [] }) c.loop-piece-test.true)
-    (exits_after _ (flat_map text (drop (i + 1) pieces)) c.from_residual.result c.from_residual.ensures.1 c.loop-piece.invariant c.in_err-put.ensures)
+    (fails_behind _ (flat_map text (drop (i + 1) pieces)) c.from_residual.result c.from_residual.ensures.1 c.loop-piece.invariant c.in_err-put.ensures)

@@ -1,8 +1,8 @@
 use Rattle.std.proofs.Common.{◌++◌, ◌∙◌, ap, codes, decimal, ne_eqb}
 use Rattle.surf_kinds.specs.Rates.{Fraction}
-use Rattle.manifest_read.specs.Canon.{rate_text}
-use Rattle.surface_rows.proofs.Sequences.{puts_as}
-use Rattle.manifest_write.proofs.Forms.{quotient-rate}
+use Rattle.manifest_write.specs.Canon.{rate_text}
+use Rattle.surf_outside.proofs.LawLemmas.{puts_as}
+use Rattle.manifest_write.proofs.Spellings.Forms.{quotient-rate}
 use Rattle.manifest_write.proofs.pieces.put_rate.Goals as goal
 
 pub returns : goal.returns

@@ -1,6 +1,6 @@
 use Rattle.std.proofs.Common.{ap, sym, ◌∙◌}
-use Rattle.manifest_read.specs.Canon.{without_zeros}
-use Rattle.manifest_write.proofs.Zeros.{zero-goes, other-stays}
+use Rattle.manifest_write.specs.Canon.{without_zeros}
+use Rattle.manifest_write.proofs.Spellings.Zeros.{zero-goes, other-stays}
 use Rattle.manifest_write.proofs.pieces.without_zeros.Goals as goal
 
 pub loop-last-preserved : goal.loop-last-preserved

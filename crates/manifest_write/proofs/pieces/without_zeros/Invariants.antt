@@ -1,5 +1,5 @@
 use Rattle.std.proofs.Common.{◌≡◌, length}
-use Rattle.manifest_read.specs.Canon.{without_zeros}
+use Rattle.manifest_write.specs.Canon.{without_zeros}
 use Rattle.manifest_write.proofs.pieces.without_zeros.Given as goal
 
 abbrev pub invariant-loop-last : goal.invariant-loop-last

@@ -1,4 +1,4 @@
-use Rattle.manifest_read.proofs.Soundness.{manifest-sound}
+use Rattle.manifest_read.proofs.LawLemmas.{manifest-sound}
 use Rattle.manifest_write.proofs.writing.write_manifest.Goals as goal
 
 pub write_canon-requires : goal.write_canon-requires

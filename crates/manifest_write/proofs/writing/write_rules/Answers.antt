@@ -1,9 +1,9 @@
 use Rattle.std.proofs.Common.{◌+◌, ◌++◌, ◌∷◌, [], ap, ◌∙◌, codes, drop, map, take}
 use Rattle.surface_rows.specs.Rows.{lines_text}
-use Rattle.surface_rows.proofs.Sequences.{put, puts_as, wrote_as, wrote_more, and_then, exits, exits_after}
-use Rattle.manifest_read.specs.Canon.{rule_line}
-use Rattle.manifest_write.proofs.Loops.{ended}
-use Rattle.manifest_write.proofs.Forms.{section-text, section-within, section-more, section-all}
+use Rattle.surf_outside.proofs.LawLemmas.{wrote_by, puts_as, wrote_as, wrote_more, puts_after, fails_within, fails_behind}
+use Rattle.manifest_write.specs.Canon.{rule_line}
+use Rattle.manifest_write.proofs.Spellings.Loops.{ended}
+use Rattle.manifest_write.proofs.Spellings.Forms.{section-text, section-within, section-more, section-all}
 use Rattle.manifest_write.proofs.writing.write_rules.Goals as goal
 
 pub returns-in_err-put : goal.returns-in_err-put
@@ -12,7 +12,7 @@ returns-in_err-put g c =
     let rules = c.args.rules.now in
     puts_as (lines_text (codes "!START_TRANSITION_RULES" ∷ map f rules ++ codes "!END_TRANSITION_RULES" ∷ []))
     (section-text (codes "!START_TRANSITION_RULES") (codes "!END_TRANSITION_RULES") (map f rules))
-    (exits _ (lines_text (map f rules) ++ codes "!END_TRANSITION_RULES\n") c.from_residual.result c.from_residual.ensures.1 c.in_err-put.ensures)
+    (fails_within _ (lines_text (map f rules) ++ codes "!END_TRANSITION_RULES\n") c.from_residual.result c.from_residual.ensures.1 c.in_err-put.ensures)
 
 pub returns-in_err-write_rule : goal.returns-in_err-write_rule
 returns-in_err-write_rule g c =
@@ -23,7 +23,7 @@ returns-in_err-write_rule g c =
     let after = lines_text (map f (drop (i + 1) rules)) ++ ended (codes "!END_TRANSITION_RULES") in
     puts_as (lines_text (codes "!START_TRANSITION_RULES" ∷ map f rules ++ codes "!END_TRANSITION_RULES" ∷ []))
     (ap (λ r. (before ++ ended (f r)) ++ after) c.rule-item.is ∙ section-within (codes "!START_TRANSITION_RULES") (codes "!END_TRANSITION_RULES") f rules i c.rule-item.result c.loop-rule-test.true)
-    (exits_after _ after c.from_residual-in_err-write_rule.result c.from_residual-in_err-write_rule.ensures.1 c.loop-rule.invariant c.in_err-write_rule.ensures)
+    (fails_behind _ after c.from_residual-in_err-write_rule.result c.from_residual-in_err-write_rule.ensures.1 c.loop-rule.invariant c.in_err-write_rule.ensures)
 
 pub loop-rule-preserved : goal.loop-rule-preserved
 loop-rule-preserved g c =
@@ -33,7 +33,7 @@ loop-rule-preserved g c =
     let before = codes "!START_TRANSITION_RULES\n" ++ lines_text (map f (take i rules)) in
     wrote_as (codes "!START_TRANSITION_RULES\n" ++ lines_text (map f (take (i + 1) rules)))
     (ap (λ r. before ++ ended (f r)) c.rule-item.is ∙ section-more (codes "!START_TRANSITION_RULES\n") f rules i c.rule-item.result c.loop-rule-test.true)
-    (wrote_more c.loop-rule.invariant (put c.in_ok-write_rule.ensures))
+    (wrote_more c.loop-rule.invariant (wrote_by c.in_ok-write_rule.ensures))
 
 pub returns : goal.returns
 returns g c =
@@ -41,4 +41,4 @@ returns g c =
     let rules = c.args.rules.now in
     puts_as (lines_text (codes "!START_TRANSITION_RULES" ∷ map f rules ++ codes "!END_TRANSITION_RULES" ∷ []))
     (section-all (codes "!START_TRANSITION_RULES") (codes "!END_TRANSITION_RULES") f rules c.loop-rule.rule-index c.loop-rule-test.false)
-    (and_then c.put-2.result c.loop-rule.invariant c.put-2.ensures)
+    (puts_after c.put-2.result c.loop-rule.invariant c.put-2.ensures)

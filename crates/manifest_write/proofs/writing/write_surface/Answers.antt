@@ -1,7 +1,7 @@
 use Rattle.std.proofs.Common.{◌++◌, codes}
 use Rattle.surface_rows.specs.Rows.{lines_text, row_lines, rows_text}
-use Rattle.surface_rows.proofs.Sequences.{put, puts_as, wrote_more, and_then, exits, exits_after}
-use Rattle.manifest_write.proofs.Forms.{surface_text, section-text, section-end}
+use Rattle.surf_outside.proofs.LawLemmas.{wrote_by, puts_as, wrote_more, puts_after, fails_within, fails_behind}
+use Rattle.manifest_write.proofs.Spellings.Forms.{surface_text, section-text, section-end}
 use Rattle.manifest_write.proofs.writing.write_surface.Goals as goal
 
 pub returns-in_err-put : goal.returns-in_err-put
@@ -10,7 +10,7 @@ returns-in_err-put g c =
     let m = c.args.m.now in
     let rows = row_lines m.names m.lattice.rows m.lattice.cols m.cells in
     puts_as (surface_text m) (section-text (codes "!START_INIT_STATE") (codes "!END_INIT_STATE") rows)
-    (exits _ (lines_text rows ++ codes "!END_INIT_STATE\n") c.from_residual.result c.from_residual.ensures.1 c.in_err-put.ensures)
+    (fails_within _ (lines_text rows ++ codes "!END_INIT_STATE\n") c.from_residual.result c.from_residual.ensures.1 c.in_err-put.ensures)
 
 pub returns-in_err-put_rows : goal.returns-in_err-put_rows
 unfolding rows_text
@@ -18,7 +18,7 @@ returns-in_err-put_rows g c =
     let m = c.args.m.now in
     let rows = row_lines m.names m.lattice.rows m.lattice.cols m.cells in
     puts_as (surface_text m) (section-end (codes "!START_INIT_STATE") (codes "!END_INIT_STATE") rows)
-    (exits_after _ (codes "!END_INIT_STATE\n") c.from_residual-in_err-put_rows.result c.from_residual-in_err-put_rows.ensures.1 (put c.in_ok-put.ensures) c.in_err-put_rows.ensures)
+    (fails_behind _ (codes "!END_INIT_STATE\n") c.from_residual-in_err-put_rows.result c.from_residual-in_err-put_rows.ensures.1 (wrote_by c.in_ok-put.ensures) c.in_err-put_rows.ensures)
 
 pub returns : goal.returns
 unfolding rows_text
@@ -26,4 +26,4 @@ returns g c =
     let m = c.args.m.now in
     let rows = row_lines m.names m.lattice.rows m.lattice.cols m.cells in
     puts_as (surface_text m) (section-end (codes "!START_INIT_STATE") (codes "!END_INIT_STATE") rows)
-    (and_then c.put-2.result (wrote_more (put c.in_ok-put.ensures) (put c.in_ok-put_rows.ensures)) c.put-2.ensures)
+    (puts_after c.put-2.result (wrote_more (wrote_by c.in_ok-put.ensures) (wrote_by c.in_ok-put_rows.ensures)) c.put-2.ensures)

@@ -1,4 +1,4 @@
-use Rattle.lattice.proofs.Laws.{sites_differ, same_sites}
+use Rattle.lattice.proofs.LawLemmas.{sites_differ, same_sites}
 use Rattle.plan.proofs.laws.places_differ.Goals as goal
 
 pub returns-clause-two_sites : goal.returns-clause-two_sites

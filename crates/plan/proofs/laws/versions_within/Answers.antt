@@ -1,4 +1,4 @@
-use Rattle.lattice.proofs.Seven.{seven}
+use Rattle.lattice.proofs.LawLemmas.{seven}
 use Rattle.plan.proofs.laws.versions_within.Goals as goal
 
 pub returns : goal.returns

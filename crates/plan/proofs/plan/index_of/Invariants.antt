@@ -1,6 +1,7 @@
 use Rattle.std.proofs.Common.{◌≡◌}
 use Rattle.plan.specs.declared.index.Reactants.{Reactants}
-use Rattle.plan.specs.Index.{found_in, channels_upto, AreRows}
+use Rattle.plan.specs.Channels.{channels_upto}
+use Rattle.plan.specs.Index.{found_in, AreRows}
 use Rattle.plan.proofs.plan.index_of.Given as goal
 
 abbrev pub invariant-loop-i : goal.invariant-loop-i

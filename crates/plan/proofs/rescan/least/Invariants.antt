@@ -3,4 +3,4 @@ use Rattle.plan.specs.Next.{least_upto}
 use Rattle.plan.proofs.rescan.least.Given as goal
 
 abbrev pub invariant-loop-place : goal.invariant-loop-place
-invariant-loop-place l = l.best ≡ least_upto l.plan.lattice l.plan.seed l.plan.rules l.sites l.place
+invariant-loop-place l = l.best ≡ least_upto l.plan l.sites l.place

@@ -1,4 +1,4 @@
-use Rattle.rates.proofs.Laws.{wait-at_least, wait-at_most, wait-instant}
+use Rattle.rates.proofs.Waiting.{wait-at_least, wait-at_most, wait-instant}
 use Rattle.rates.proofs.waits.wait_bounds.Goals as goal
 
 pub returns-clause-at_least : goal.returns-clause-at_least

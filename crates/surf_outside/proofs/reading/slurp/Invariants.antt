@@ -6,7 +6,7 @@ abbrev pub invariant-loop-n : goal.invariant-loop-n
 invariant-loop-n g l =
     record {
       in_range : length l.all.items ≤ l.most;
-      taken : Consumes (g.S.Source.left l.fn.source) (g.S.Source.left l.source) l.all.items;
+      taken : Consumes (g.S.Source.unread l.fn.source) (g.S.Source.unread l.source) l.all.items;
       later : g.S.Source.faults l.fn.source ≤ g.S.Source.faults l.source;
     }
 

@@ -6,7 +6,7 @@ abbrev pub invariant-loop-at : goal.invariant-loop-at
 invariant-loop-at g l =
     record {
       in_range : l.at ≤ length l.bytes;
-      written : Appends (g.O.Sink.held l.fn.out) (g.O.Sink.held l.out) (take l.at l.bytes);
+      written : Appends (g.O.Sink.written l.fn.out) (g.O.Sink.written l.out) (take l.at l.bytes);
       later : g.O.Sink.faults l.fn.out ≤ g.O.Sink.faults l.out;
     }
 

@@ -1,6 +1,6 @@
 use Rattle.std.proofs.Common.{◌+◌, ◌++◌, ◌∷◌, [], map, ap, ◌∙◌}
 use Rattle.surface_rows.specs.Rows.{name_of, spaced, rows_text}
-use Rattle.surface_rows.proofs.Sequences.{put, wrote_nothing, wrote_as, wrote_more, puts_as, exits_after}
+use Rattle.surf_outside.proofs.LawLemmas.{wrote_by, wrote_nothing, wrote_as, wrote_more, puts_as, fails_behind}
 use Rattle.surface_rows.proofs.RowParts.{rows-none, rows-more, rows-within, row-is}
 use Rattle.surface_rows.proofs.rows.write_rows.Goals as goal
 
@@ -17,7 +17,7 @@ returns-in_err-write_row-clause-err g c =
     let p =
     puts_as (rows_text names c.args.rows cols cells)
     (ap (λ ids. (rows_text names row cols cells ++ (spaced (map (name_of names) ids) ++ 10 ∷ [])) ++ within.0) (row-is cells row cols) ∙ within.1)
-    (exits_after _ within.0 c.from_residual.result c.from_residual.ensures.1 c.loop-row.invariant c.in_err-write_row.ensures)
+    (fails_behind _ within.0 c.from_residual.result c.from_residual.ensures.1 c.loop-row.invariant c.in_err-write_row.ensures)
     in
     p.err
 
@@ -29,4 +29,4 @@ loop-row-preserved g c =
     let row = c.loop-row.row in
     wrote_as (rows_text names (row + 1) cols cells)
     (ap (λ ids. rows_text names row cols cells ++ (spaced (map (name_of names) ids) ++ 10 ∷ [])) (row-is cells row cols) ∙ rows-more names row cols cells)
-    (wrote_more c.loop-row.invariant (put c.in_ok-write_row.ensures))
+    (wrote_more c.loop-row.invariant (wrote_by c.in_ok-write_row.ensures))

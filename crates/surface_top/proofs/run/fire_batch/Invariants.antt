@@ -1,5 +1,6 @@
 use Rattle.std.proofs.Common.{◌≡◌, length}
-use Rattle.surface_top.specs.Writing.{fired_all, AreNext}
+use Rattle.plan.specs.History.{AreNext}
+use Rattle.one_engine.specs.State.{fired_all}
 use Rattle.surface_top.proofs.run.fire_batch.Given as goal
 
 abbrev pub invariant-loop : goal.invariant-loop

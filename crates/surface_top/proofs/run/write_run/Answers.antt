@@ -1,7 +1,7 @@
 use Rattle.std.proofs.Common.{refl, sym, ap, ◌∙◌, subst}
 use Rattle.std.specs.Prelude.{◌*◌, ◌^◌, ◌≤◌, All}
 use Rattle.surf_kinds.specs.declared.site.SiteState.{SiteState}
-use Rattle.surface_state.specs.Standing.{Standing}
+use Rattle.surface_state.specs.SurfaceView.{SurfaceView}
 use Rattle.one_engine.specs.State.{State}
 use Rattle.surface_top.specs.Pages.{Waiting}
 use Rattle.surface_top.specs.Writing.{scene, Begins, IsReady}
@@ -19,11 +19,11 @@ run_engine-requires-clause-ready g c =
     let w = c.new-writer.result in
     subst (λ (x : State). IsReady (scene c.args.names.now x.network c.args.span) w) (sym c.in-Ok-new.ensures)
     (begins_ready (scene c.args.names.now c.args.plan c.args.span) c.args.span c.args.surface w c.requires.first.0
-    (subst (λ (x : Standing). Begins c.args.span x w) c.in-Ok.ensures c.new-writer.ensures) refl refl c.requires.duration c.requires.lattice c.requires.kinds c.requires.species c.requires.first.1)
+    (subst (λ (x : SurfaceView). Begins c.args.span x w) c.in-Ok.ensures c.new-writer.ensures) refl refl c.requires.duration c.requires.lattice c.requires.species_count c.requires.species c.requires.first.1)
 
 pub run_engine-requires-clause-same : goal.run_engine-requires-clause-same
 run_engine-requires-clause-same g c =
-    ap (λ (x : State). x.surface.sites) c.in-Ok-new.ensures ∙ ap (λ (x : Standing). x.sites) (sym (c.new-writer.ensures.surface ∙ c.in-Ok.ensures))
+    ap (λ (x : State). x.surface.sites) c.in-Ok-new.ensures ∙ ap (λ (x : SurfaceView). x.sites) (sym (c.new-writer.ensures.surface ∙ c.in-Ok.ensures))
 
 pub returns-clause-limited : goal.returns-clause-limited
 returns-clause-limited g c =

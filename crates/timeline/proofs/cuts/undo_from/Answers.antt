@@ -1,6 +1,6 @@
 -- The entry that was taken out was the last step to the surface, so it may be undone.
 use Rattle.std.proofs.Common.{ap, ◌∙◌}
-use Rattle.surface_state.specs.Standing.{Standing}
+use Rattle.surface_state.specs.SurfaceView.{SurfaceView}
 use Rattle.timeline.proofs.Undoing.{undoing_more, undoing_done, last_may}
 use Rattle.timeline.proofs.cuts.undo_from.Goals as goal
 
@@ -23,8 +23,8 @@ undo-requires-clause-left c =
 pub loop-entry-preserved : goal.loop-entry-preserved
 loop-entry-preserved c = record {
   undoing = undoing_more _ _ _ _ _ _ _ _ c.in-Some.entry c.loop-entry.invariant.undoing c.in-Some.ensures.last c.in-Some.ensures.from c.undo.ensures;
-  lattice = ap (λ (v : Standing). v.lattice) c.undo.ensures ∙ c.loop-entry.invariant.lattice;
-  kinds = ap (λ (v : Standing). v.kinds) c.undo.ensures ∙ c.loop-entry.invariant.kinds;
+  lattice = ap (λ (v : SurfaceView). v.lattice) c.undo.ensures ∙ c.loop-entry.invariant.lattice;
+  species_count = ap (λ (v : SurfaceView). v.species_count) c.undo.ensures ∙ c.loop-entry.invariant.species_count;
   capacity = c.in-Some.ensures.capacity ∙ c.loop-entry.invariant.capacity;
 }
 

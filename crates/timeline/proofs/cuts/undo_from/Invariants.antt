@@ -6,7 +6,7 @@ abbrev pub invariant-loop-entry : goal.invariant-loop-entry
 invariant-loop-entry l = record {
   undoing : Undoing l.key l.fn.entries.items l.fn.surface l.entries.items l.surface l.undone;
   lattice : l.surface.lattice ≡ l.fn.surface.lattice;
-  kinds : l.surface.kinds ≡ l.fn.surface.kinds;
+  species_count : l.surface.species_count ≡ l.fn.surface.species_count;
   capacity : vec_capacity l.entries ≡ vec_capacity l.fn.entries;
 }
 

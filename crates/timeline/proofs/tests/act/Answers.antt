@@ -12,7 +12,7 @@ returns g c =
     let now = c.apply-before.new.self in
     let entry : Entry = record { before = c.apply-before.result; own = true } in (
       base,
-      subst (λ l. LedTo base l now) (sym (c.push.ensures.entries ∙ ap (λ l. l ++ entry ∷ []) c.in-Ok.ensures.entries))
+      subst (λ l. LedTo base l now) (sym (c.push.ensures.entries ∙ ap (λ l. l ++ entry ∷ []) c.in_ok-reserve.ensures.entries))
           (pushed base before now c.args.timeline.now.entries entry c.requires.1
           (step_applied before now c.args.event c.args.to entry c.apply-before.ensures.event c.apply-before.ensures.surface c.apply-before.ensures.stood c.apply-before.ensures.below)),
     )

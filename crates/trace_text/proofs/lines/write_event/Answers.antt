@@ -1,10 +1,10 @@
 use Rattle.std.proofs.Common.{◌≡◌, ap, arith}
 use Rattle.trace_text.specs.Lines.{event_text}
-use Rattle.trace_text.proofs.Below.{place-below}
+use Rattle.trace_text.proofs.Below.{site-below}
 use Rattle.trace_text.proofs.lines.write_event.Goals as goal
 
 pub event_line-line-requires-clause-site : goal.event_line-line-requires-clause-site
-event_line-line-requires-clause-site g c = omega (arith, place-below c.args.lattice.now c.args.event.place.0 c.requires, c.cols.ensures.sites)
+event_line-line-requires-clause-site g c = omega (arith, site-below c.args.lattice.now c.args.event.place.0 c.requires, c.cols.ensures.sites)
 
 pub returns-clause-ok : goal.returns-clause-ok
 returns-clause-ok g c =

@@ -1,6 +1,6 @@
 use Rattle.std.proofs.Common.{◌∙◌}
 use Rattle.trace_text.specs.Lines.{heading_text}
-use Rattle.surface_rows.proofs.Sequences.{puts_as}
+use Rattle.surf_outside.proofs.LawLemmas.{puts_as}
 use Rattle.trace_text.proofs.Texts.{heading-is}
 use Rattle.trace_text.proofs.lines.write_heading.Goals as goal
 

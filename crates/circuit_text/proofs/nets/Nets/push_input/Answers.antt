@@ -9,5 +9,5 @@ overflow_add-self c = omega (arith, inputs_few c.self.inside.nets.items, c.self.
 
 pub invariant_of-self-inside-2 : goal.invariant_of-self-inside-2
 invariant_of-self-inside-2 c =
-    rw c.in-Ok.ensures.items
+    rw c.in_ok-push.ensures.items
     (nets_push c.self.inside.nets.items (net.Input c.self.inside.inputs) c.self.inside.nets_are tt, (below_input c.self.inside.inputs c.self.inside.nets.items c.self.inside.inputs_are, tt))

@@ -2,7 +2,7 @@ use Rattle.std.proofs.Common.{◌≡◌, ◌∙◌, ◌+◌, ◌-◌, ap, sym, s
 use Rattle.std.proofs.lemmas.List.{with_items_is, length-set, length-take-le}
 use Rattle.std.specs.Vec.{with_item}
 use Rattle.std.proofs.lemmas.Option.{same_Some}
-use Rattle.event_queue.specs.Heap.{IsHeap, entry_at, filled, told, kept_entries, kept_with, nothing, nowhere}
+use Rattle.event_queue.specs.Heap.{IsHeap, entry_at, filled, located, kept_entries, kept_with, nothing, nowhere}
 use Rattle.event_queue.proofs.Seen.{seen_set, seen_unset, seen_place, index_read}
 use Rattle.event_queue.proofs.Changes.{closed_up, cut_off, removed_inverse, removed_kept, removed_heap, removed_last}
 use Rattle.event_queue.proofs.queue.Queue.drop_at.Goals as goal
@@ -92,7 +92,7 @@ returns-then-at-len-2 c =
     ap (λ n. kept_entries s.new.heap n s.new.positions) s.auto.heap ∙ s.ensures.kept
     ∙ ap (λ h. kept_with h c.deref_mut-then-at-len-2.result.now at c.in-Some.moved) (c.deref_mut.ensures.value ∙ c.pop.ensures.rest)
     ∙ ap (λ p. kept_with (take m heap) p at c.in-Some.moved) c.deref_mut-then-at-len-2.ensures.value
-    ∙ ap (λ n. kept_entries (filled (take m heap) at c.in-Some.moved) n (told (set q.positions.items k nowhere) at c.in-Some.moved)) short
+    ∙ ap (λ n. kept_entries (filled (take m heap) at c.in-Some.moved) n (located (set q.positions.items k nowhere) at c.in-Some.moved)) short
     ∙ removed_kept _ _ _ _ _ _ _ r ∙ ap (λ n. set (kept_entries heap n q.positions.items) k None) (sym long) in
     rw (with_items_is c.pop.new.self s.new.heap long_heap, with_items_is (with_item q.positions k nowhere) s.new.positions long_positions)
     (seen_set q.first heap heap s.new.heap s.new.heap (length heap) (length s.new.heap) q.positions.items q.positions.items s.new.positions s.new.positions k (c.args.place.0 - c.args.self.now.first) None None c.args.self.now c.self.view_is refl refl refl refl kept refl place.2)

@@ -2,7 +2,7 @@ use Rattle.std.proofs.Common.{◌≡◌, ◌∙◌, ◌+◌, ◌-◌, ap, sym, s
 use Rattle.std.proofs.lemmas.List.{with_items_is}
 use Rattle.surf_kinds.specs.declared.event.Event.{Event}
 use Rattle.event_queue.specs.declared.entry.Entry.{Entry}
-use Rattle.event_queue.specs.Heap.{AreInverse, IsHeap, filled, told, kept_entries, kept_with}
+use Rattle.event_queue.specs.Heap.{AreInverse, IsHeap, filled, located, kept_entries, kept_with}
 use Rattle.event_queue.proofs.Seen.{seen_set, seen_place, event_from, index_read}
 use Rattle.event_queue.proofs.Room.{room}
 use Rattle.event_queue.proofs.Changes.{replaced, added, written_inverse, written_kept}
@@ -56,7 +56,7 @@ settle-requires-else-at-end-clause-inverse c =
     let is : slice_index q.positions.items k ≡ at = index_read q.positions.items k at place.1 c.index.ensures in
     let w = added q.heap.items q.positions.items entry c.self.invariant.inverse place.1 (omega arith) in
     let end_is : c.len-end.result ≡ length q.heap.items = omega arith in
-    rw (c.deref_mut-else-at-end.ensures.value, c.push_reserved.ensures.items, c.deref_mut-else-at-end-2.ensures.value) (subst (λ n. AreInverse (filled (q.heap.items ++ entry ∷ []) n entry) (told q.positions.items n entry)) (sym end_is) (written_inverse _ _ _ _ _ _ _ _ w))
+    rw (c.deref_mut-else-at-end.ensures.value, c.push_reserved.ensures.items, c.deref_mut-else-at-end-2.ensures.value) (subst (λ n. AreInverse (filled (q.heap.items ++ entry ∷ []) n entry) (located q.positions.items n entry)) (sym end_is) (written_inverse _ _ _ _ _ _ _ _ w))
 
 pub returns-then-at-end : goal.returns-then-at-end
 returns-then-at-end c =
@@ -103,7 +103,7 @@ returns-else-at-end c =
     ∙ ap (λ h. kept_with h c.deref_mut-else-at-end-2.result.now c.len-end.result entry) (c.deref_mut-else-at-end.ensures.value ∙ c.push_reserved.ensures.items)
     ∙ ap (λ p. kept_with (heap ++ entry ∷ []) p c.len-end.result entry) c.deref_mut-else-at-end-2.ensures.value
     ∙ ap (λ i. kept_with (heap ++ entry ∷ []) q.positions.items i entry) end
-    ∙ ap (λ m. kept_entries (filled (heap ++ entry ∷ []) n entry) m (told q.positions.items n entry)) longer
+    ∙ ap (λ m. kept_entries (filled (heap ++ entry ∷ []) n entry) m (located q.positions.items n entry)) longer
     ∙ written_kept _ _ _ _ _ _ _ _ w in
     rw (with_items_is c.push_reserved.new.self s.new.heap long_heap, with_items_is q.positions s.new.positions long_positions)
     (seen_set q.first heap heap s.new.heap s.new.heap n (length s.new.heap) q.positions.items q.positions.items s.new.positions s.new.positions k (e.place.0 - c.args.self.now.first) (Some entry) (Some e) c.args.self.now c.self.view_is refl refl refl refl kept (ap (λ (v : Event). Some v) (event_from q.first e place.0)) place.2)

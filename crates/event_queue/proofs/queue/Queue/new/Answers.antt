@@ -3,4 +3,4 @@ use Rattle.event_queue.proofs.Seen.{seen_new}
 use Rattle.event_queue.proofs.queue.Queue.new.Goals as goal
 
 pub returns : goal.returns
-returns c = rw c.in-Ok.ensures.items (seen_new c.args.first.0 [] c.in-Ok-vec.positions.items c.args.count (omega (arith, c.in-Ok-vec.ensures.len)))
+returns c = rw c.in_ok-heap.ensures.items (seen_new c.args.first.0 [] c.in_ok-positions.positions.items c.args.count (omega (arith, c.in_ok-positions.ensures.len)))

@@ -21,7 +21,7 @@ returns-clause-none c =
     let nets = c.args.self.now.nets in
     let own : c.self.inside.circuit.now ≡ c.args.self.now = c.self.view_is in
     let is : option_map spot_of c.feeder.result ≡ feeder_of nets c.args.row c.args.col c.args.half = c.feeder.ensures ∙ ap (λ l. feeder_of l.nets c.args.row c.args.col c.args.half) own in
-    let are = subst (λ l. AreNumbered l.nets) own c.keeps.ensures.inputs in (
+    let are = subst (λ l. AreNumbered l.nets) own c.circuit_facts.ensures.inputs in (
       λ none. none_is nets c.args.row c.args.col c.args.half c.requires.row are (gone c.feeder.result _ is none),
       λ one. there c.feeder.result _ is (none_if nets c.args.row c.args.col c.args.half are one),
     )

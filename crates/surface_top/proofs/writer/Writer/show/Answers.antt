@@ -7,7 +7,7 @@ use Rattle.surface_top.proofs.writer.Writer.show.Goals as goal
 
 pub loop-tick-preserved : goal.loop-tick-preserved
 loop-tick-preserved g c =
-    subst (λ (w : Writer). Showing (scene_of c.args.task.now) c.args.self.now w c.args.time (page (g.O.Sink.held c.args.out.now) (g.O.Sink.faults c.args.out.now) c.args.self.now.buffer) (page (g.O.Sink.held c.put_surface.new.out) (g.O.Sink.faults c.put_surface.new.out) w.buffer)) (sym c.in-Ok.ensures.rest)
+    subst (λ (w : Writer). Showing (scene_of c.args.task.now) c.args.self.now w c.args.time (page (g.O.Sink.written c.args.out.now) (g.O.Sink.faults c.args.out.now) c.args.self.now.buffer) (page (g.O.Sink.written c.put_surface.new.out) (g.O.Sink.faults c.put_surface.new.out) w.buffer)) (sym c.in-Ok.ensures.rest)
     (showing_step (scene_of c.args.task.now) c.args.self.now c.loop-tick.self c.args.time c.in-Some.tick c.before-in-loop-tick.new.self _ _ _ c.put_surface.new.self.buffer c.loop-tick.invariant c.in-Some.ensures.0 c.in-Some.ensures.1 c.in-Ok.ensures.puts)
 
 pub returns-in-Err-clause-puts : goal.returns-in-Err-clause-puts

@@ -1,0 +1,2 @@
+mod Refreshing
+pub mod LawLemmas

@@ -1,5 +1,0 @@
-use Rattle.std.proofs.Common.{◌≡◌, ◌<◌, length, All}
-use Rattle.one_engine.proofs.tests.pattern.Given as goal
-
-abbrev pub invariant-loop-site : goal.invariant-loop-site
-invariant-loop-site l = (length l.cells.items ≡ l.site) × All (λ s. s.0 < 4) l.cells.items

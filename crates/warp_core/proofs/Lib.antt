@@ -1,0 +1,3 @@
+pub mod Theory
+pub mod Simulation
+pub mod LawLemmas

@@ -1,0 +1,10 @@
+pub mod Cuts
+pub mod Locals
+pub mod Accepted
+pub mod Parts
+pub mod Joined
+pub mod Moves
+pub mod Commits
+pub mod Runs
+pub mod PartRuns
+pub mod Later

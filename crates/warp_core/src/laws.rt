@@ -1,0 +1,103 @@
+//! Laws of the core, over its definitions alone, for every world that meets the laws of a simulation.
+
+ghost use Rattle.std.specs.Prelude.{◌≡◌, ◌<◌, ◌≤◌, ◌^◌, ◌++◌, ℕ, List, Option, Bool, Some};
+ghost use Rattle.surf_kinds.specs.declared.event.Event.{Event};
+ghost use Rattle.surf_kinds.specs.declared.event.Key.{Key};
+ghost use Rattle.surf_kinds.specs.declared.site.SiteState.{SiteState};
+ghost use Rattle.surf_kinds.specs.Keys.{key_of, below, from, ◌is_below◌, ◌is_upto◌};
+ghost use Rattle.border.specs.declared.op.Op.{Op as Message};
+ghost use Rattle.plan.specs.Network.{Network};
+ghost use Rattle.regions.specs.Bands.{Bands, IsCut};
+ghost use Rattle.warp_core.specs.World.{World, IsWorld, IsMonotone, Agree, after_all};
+ghost use Rattle.warp_core.specs.Simulation.{world_of};
+ghost use Rattle.warp_core.specs.Timelines.{IsLocal};
+ghost use Rattle.warp_core.specs.Parts.{Part, PartStep, IsSound, MayRun, IsRun, part_run, run_puts, run_takes};
+ghost use Rattle.warp_core.specs.Cores.{Core, IsConsistent, base_of, first_core};
+ghost use Rattle.warp_core.specs.Steps.{Step, StepOf, StepsOf, IsPrefixOf};
+
+/// At most one timeline is local: for given places, base surface, floor, incoming events and clock.
+pub fn one_timeline_is_local()
+    ensures { (w : World) (mine : Key → Bool) (base : List SiteState) (floor : Key) (ins : Key → Option Event) (clock : Key) (xs ys : List Event)
+        → IsLocal w mine base floor ins clock xs → IsLocal w mine base floor ins clock ys → xs ≡ ys }
+{}
+
+/// A local timeline cut at a key is local below that key, also where other events come in from that key on.
+pub fn a_cut_timeline_is_local()
+    ensures { (w : World) (mine : Key → Bool) (base : List SiteState) (floor : Key) (ins other : Key → Option Event) (clock key : Key) (es : List Event)
+        → IsLocal w mine base floor ins clock es → key is_upto clock → ((k : Key) → k is_below key → ins k ≡ other k) → IsLocal w mine base floor other key (below key es) }
+{}
+
+/// The first configuration is consistent.
+pub fn the_first_is_consistent()
+    ensures { (w : World) → IsConsistent w first_core }
+{}
+
+/// Fire keeps a configuration consistent.
+pub fn fire_keeps_consistency()
+    ensures { (w : World) → IsWorld w → (old new : Core) (i : ℕ) → IsConsistent w old → StepOf w old (Step.Fire i) new → IsConsistent w new }
+{}
+
+/// Pass keeps a configuration consistent.
+pub fn pass_keeps_consistency()
+    ensures { (w : World) → IsWorld w → (old new : Core) (i : ℕ) → IsConsistent w old → StepOf w old (Step.Pass i) new → IsConsistent w new }
+{}
+
+/// Take keeps a configuration consistent.
+pub fn take_keeps_consistency()
+    ensures { (w : World) → IsWorld w → (old new : Core) (j i : ℕ) → IsConsistent w old → StepOf w old (Step.Take j i) new → IsConsistent w new }
+{}
+
+/// Commit keeps a configuration consistent.
+pub fn commit_keeps_consistency()
+    ensures { (w : World) → IsWorld w → (old new : Core) (key : Key) → IsConsistent w old → StepOf w old (Step.Commit key) new → IsConsistent w new }
+{}
+
+/// After every list of steps from the first configuration the core is consistent.
+pub fn every_list_of_steps()
+    ensures { (w : World) → IsWorld w → (steps : List Step) (new : Core) → StepsOf w first_core steps new → IsConsistent w new }
+{}
+
+/// After every list of steps the committed events are the history below the horizon, and they only grow.
+pub fn the_history_is_committed()
+    ensures history { (w : World) → IsWorld w → (steps : List Step) (new : Core) → StepsOf w first_core steps new → new.committed ≡ below new.horizon w.history }
+    ensures grows { (w : World) (old new : Core) (steps : List Step) → StepsOf w old steps new → IsPrefixOf old.committed new.committed }
+{}
+
+/// A run of Fire, Pass and Take of one region, from a sound part, has four facts that need nothing of the other
+/// regions: what it made of the stacks, that the part is sound, what it told, and that all of that was lawful.
+pub fn a_run_keeps_a_part_sound()
+    ensures { (w : World) → IsWorld w → (base : List SiteState) (floor : Key) (i : ℕ) (p : Part) (steps : List PartStep)
+        → IsSound w base floor i p → MayRun w base floor i p steps
+        → IsRun w base floor i p (part_run w floor i p steps) (run_takes steps) (run_puts w floor i p steps) }
+{}
+
+/// Where each region makes a run, and for every pair the channel before with what was put is what was taken with the
+/// channel after, a consistent configuration is consistent again.
+pub fn runs_join()
+    ensures { (w : World) → IsWorld w → (c : Core) (steps : ℕ → List PartStep) (channel : ℕ → ℕ → List Message) → IsConsistent w c
+        → ((i : ℕ) → i < w.regions → MayRun w (base_of w c) c.horizon i (c.part i) (steps i))
+        → ((j i : ℕ) → j < w.regions → i < w.regions → c.channel j i ++ run_puts w c.horizon j (c.part j) (steps j) i ≡ run_takes (steps i) j ++ channel j i)
+        → IsConsistent w (record c { part = λ i. part_run w c.horizon i (c.part i) (steps i); channel = channel }) }
+{}
+
+/// A part that is sound for one base is sound for every base that agrees with it at the sites that the region sees. A
+/// part whose floor moves up to a key that is at most its clock, and that forgets the entries below the key, is sound
+/// for the surface after these.
+pub fn a_base_may_move()
+    ensures agree { (w : World) → IsWorld w → (i : ℕ) (a b : List SiteState) (floor : Key) (p : Part) → Agree w i a b → IsSound w a floor i p → IsSound w b floor i p }
+    ensures raised { (w : World) (i : ℕ) (base : List SiteState) (floor key : Key) (p : Part) → floor is_upto key → key is_upto p.clock
+        → IsSound w base floor i p → IsSound w (after_all w base (below key p.timeline)) key i (record p { timeline = from key p.timeline }) }
+{}
+
+/// In a consistent configuration no place of a region offers an event before the region's clock. So a region may ask for
+/// the first of all that its places offer, wherever its clock is.
+pub fn offers_come_late()
+    ensures { (w : World) → IsWorld w → IsMonotone w → (c : Core) (i : ℕ) → IsConsistent w c → i < w.regions
+        → (p : ℕ) (e : Event) → w.owner p ≡ i → w.next p (after_all w (base_of w c) (c.part i).timeline) ≡ Some e → (c.part i).clock is_upto key_of e }
+{}
+
+/// The simulation on a lattice that is cut into regions is a world of the core, and its times rise.
+pub fn the_simulation_is_a_world()
+    ensures world { (n : Network) (b : Bands) (until : ℕ) (start : List SiteState) → IsCut b → b.lattice ≡ n.lattice → until ≤ 10 ^ 15 → IsWorld (world_of n b until start) }
+    ensures monotone { (n : Network) (b : Bands) (until : ℕ) (start : List SiteState) → IsMonotone (world_of n b until start) }
+{}
