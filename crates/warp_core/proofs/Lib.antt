@@ -1,3 +1,4 @@
 pub mod Theory
 pub mod Simulation
+pub mod Machine
 pub mod LawLemmas

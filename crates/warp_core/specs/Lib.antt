@@ -5,3 +5,11 @@ pub mod Parts
 pub mod Cores
 pub mod Steps
 pub mod Simulation
+pub mod Choices
+pub mod Grounds
+pub mod Regions
+pub mod Backs
+pub mod Configs
+pub mod Commits
+pub mod FirstRegions
+pub mod Tried

@@ -8,6 +8,8 @@ use Rattle.warp_core.specs.World.{World, is_own}
 use Rattle.border.specs.Messages.{AllOpsFrom}
 use Rattle.warp_core.specs.Parts.{Part, IsNextEntry, HasNoEntry, with_entry, at_end, after_take, fire_puts, take_puts}
 use Rattle.warp_core.specs.Cores.{Core, base_of}
+use Rattle.warp_core.specs.declared.step.Step.{Step}
+use Rattle.warp_core.specs.declared.step.Step.TheVariants.{Fire, Pass, Take, Commit}
 
 -- region i has a new part, and these messages go last into its channels
 abbrev pub with_part : Core → ℕ → Part → (ℕ → List Op) → Core
@@ -48,12 +50,6 @@ pub record MayCommit (w : World) (c : Core) (k : Key) : Type 0 where
   pub from_horizon : c.horizon is_upto k
   pub clocks : (i : ℕ) → i < w.regions → k is_upto (c.part i).clock
   pub messages : (j i : ℕ) → j < w.regions → i < w.regions → AllOpsFrom k (c.channel j i)
-
-pub data Step : Type 0 where
-  Fire : ℕ → Step
-  Pass : ℕ → Step
-  Take : ℕ → ℕ → Step
-  Commit : Key → Step
 
 -- The step's condition holds of old, and new is its effect.
 abbrev pub StepOf : World → Core → Step → Core → Type 0

@@ -13,7 +13,8 @@ ghost use Rattle.warp_core.specs.Simulation.{world_of};
 ghost use Rattle.warp_core.specs.Timelines.{IsLocal};
 ghost use Rattle.warp_core.specs.Parts.{Part, PartStep, IsSound, MayRun, IsRun, part_run, run_puts, run_takes};
 ghost use Rattle.warp_core.specs.Cores.{Core, IsConsistent, base_of, first_core};
-ghost use Rattle.warp_core.specs.Steps.{Step, StepOf, StepsOf, IsPrefixOf};
+ghost use Rattle.warp_core.specs.declared.step.Step.{Step};
+ghost use Rattle.warp_core.specs.Steps.{StepOf, StepsOf, IsPrefixOf};
 
 /// At most one timeline is local: for given places, base surface, floor, incoming events and clock.
 pub fn one_timeline_is_local()

@@ -6,12 +6,22 @@
 //! the event's sites. Where a message comes with a key below the clock, the region cuts its timeline there and takes
 //! back what it had told. What lies below all clocks and all messages is final, and can be committed.
 //!
-//! The crate has the theory over any simulation that meets a few laws (`specs/World`): what a local timeline is
+//! `Config` is such a configuration over a plan. A step is made where its condition holds, and else nothing changes.
+//! For every list of steps the committed events are the history below the horizon, and the list only grows.
+//!
+//! The theory stands over any simulation that meets a few laws (`specs/World`): what a local timeline is
 //! (`specs/Timelines`), what messages do (`specs/Messages`), the steps of one region (`specs/Parts`), when a
-//! configuration is consistent (`specs/Cores`) and the steps of all (`specs/Steps`). Its laws say that after every list
-//! of steps the configuration is consistent, and the committed events are the history below the horizon; and that a
-//! network on a lattice cut into bands of rows is such a simulation (`specs/Simulation`). It stands on `plan`, `regions`
-//! and `border`.
+//! configuration is consistent (`specs/Cores`) and the steps of all (`specs/Steps`). A network on a lattice cut into
+//! bands of rows is such a simulation (`specs/Simulation`), and `specs/Configs` says what a `Config` holds of it.
 #![tactic(auto)]
 
+mod commit;
+mod config;
 pub mod laws;
+mod next;
+mod outboxes;
+mod region;
+mod step;
+
+pub use config::Config;
+pub use step::{Did, Step};

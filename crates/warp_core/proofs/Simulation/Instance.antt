@@ -26,7 +26,7 @@ pub same_after_all : (n : Network) (b : Bands) (until : ℕ) (start : List SiteS
 same_after_all n b until start [] sites = refl
 same_after_all n b until start (e ∷ es) sites = same_after_all n b until start es (after n.lattice n.rules sites e)
 
-in_time : (k : Key) (until : ℕ) → k.time ≤ until → is_before k (record { time = until + 1; place = record { 0 = 0 } }) ≡ true
+pub in_time : (k : Key) (until : ℕ) → k.time ≤ until → is_before k (record { time = until + 1; place = record { 0 = 0 } }) ≡ true
 in_time k until h = grind (arith, nat_tests)
 
 time_of : (k : Key) (until : ℕ) → is_before k (record { time = until + 1; place = record { 0 = 0 } }) ≡ true → k.time ≤ until
