@@ -22,6 +22,8 @@ mod next;
 mod outboxes;
 mod region;
 mod step;
+#[cfg(test)]
+mod tests;
 
 pub use config::Config;
 pub use step::{Did, Step};

@@ -1,0 +1,8 @@
+use Rattle.std.proofs.Common.{◌≡◌, All, refl, sym, subst}
+use Rattle.std.proofs.lemmas.List.Elements.{All-map}
+use Rattle.lattice.specs.Surface.{fresh}
+use Rattle.warp_core.specs.Configs.{IsFresh}
+use Rattle.warp_core.proofs.tests.Walk.new.Goals as goal
+
+pub new-requires-3-clause-fresh : goal.new-requires-3-clause-fresh
+new-requires-3-clause-fresh c = subst (λ v. All IsFresh v.sites) (sym c.in_ok-surface.ensures) (All-map IsFresh fresh c.args.cells.now (λ i d h. (refl, refl)))
