@@ -1,4 +1,5 @@
-pub mod Cutting
-pub mod Replays
-pub mod StackFacts
-pub mod Waiting
+mod Cutting
+mod Replays
+mod StackFacts
+mod Waiting
+pub mod LawLemmas

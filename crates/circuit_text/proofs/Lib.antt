@@ -1,14 +1,15 @@
-pub mod NetValues
-pub mod Counts
-pub mod NameTexts
-pub mod Grows
-pub mod Runs
-pub mod FormedLines
-pub mod Taken
-pub mod Known
-pub mod Joined
-pub mod Lines
-pub mod Facts
-pub mod Whole
-pub mod Sizes
-pub mod OutputNumbers
+mod NetValues
+mod Counts
+mod NameTexts
+mod Grows
+mod Runs
+mod FormedLines
+mod Taken
+mod Known
+mod Joined
+mod Lines
+mod Facts
+mod Whole
+mod Sizes
+mod OutputNumbers
+pub mod LawLemmas

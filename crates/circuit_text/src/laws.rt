@@ -1,6 +1,8 @@
 //! Laws of circuits.
 
-ghost use Rattle.circuit_text.specs.Values.{AreNets, AreInputsBelow, input_count};
+ghost use Rattle.std.specs.Prelude.{◌≡◌, List, Bool};
+ghost use Rattle.circuit_text.specs.declared.kinds.Net.{Net};
+ghost use Rattle.circuit_text.specs.Values.{values_of, AreNets, AreInputsBelow, AreValues, input_count};
 
 use crate::circuit::Circuit;
 
@@ -11,3 +13,9 @@ pub fn nets_are_ordered(circuit: &Circuit)
 {
     circuit.is_ordered();
 }
+
+/// Where each net stands behind its operands, the nets have values, and no others.
+pub fn nets_have_one_list_of_values()
+    ensures values { (nets : List Net) (inputs : List Bool) → AreNets nets → AreValues nets inputs (values_of nets inputs) }
+    ensures only { (nets : List Net) (inputs values : List Bool) → AreNets nets → AreValues nets inputs values → values ≡ values_of nets inputs }
+{}

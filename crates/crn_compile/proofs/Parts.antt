@@ -5,7 +5,7 @@ use Rattle.manifest_read.specs.declared.manifest.Manifest.{Manifest}
 use Rattle.manifest_read.specs.Manifest.{IsValid}
 use Rattle.circuit_text.specs.Circuits.{NetList}
 use Rattle.circuit_text.specs.Values.{values_of, AreNets}
-use Rattle.circuit_text.proofs.NetValues.{values_are}
+use Rattle.circuit_text.proofs.LawLemmas.{values_are}
 use Rattle.gate_layout.specs.Nets.{AreNumbered}
 use Rattle.gate_layout.specs.Table.{Table, IsWellFormed}
 use Rattle.crn_compile.specs.Start.{IsStart}

@@ -5,8 +5,8 @@ use Rattle.std.proofs.lemmas.Option.{none-some, same_Some}
 use Rattle.std.proofs.lemmas.List.Elements.{filter-append}
 use Rattle.surf_kinds.specs.declared.event.Key.{Key}
 use Rattle.surf_kinds.specs.declared.event.Event.{Event}
-use Rattle.surf_kinds.specs.Keys.{same_key, key_of, ◌is_below◌, ◌is_upto◌, at, keep, AllKeys, IsRising}
-use Rattle.surf_kinds.proofs.Order.{lt_le, lt_not_le, lt_to_le, same_refl, same_is, below_not_same, above_not_same}
+use Rattle.surf_kinds.specs.Keys.{same_key, key_of, ◌is_below◌, ◌is_upto◌, is_before, at, keep, below, AllKeys, IsRising}
+use Rattle.surf_kinds.proofs.Order.{lt_le, lt_not_le, lt_to_le, same_refl, same_is, below_not_same, above_not_same, below_and}
 
 pub none_or_some : (o : Option Event) → (o ≡ None) ⊎ ((e : Event) × (o ≡ Some e))
 none_or_some None = inl refl
@@ -224,3 +224,7 @@ keep_none P (e ∷ es) a = keep_no P e es a.0 ∙ keep_none P es a.1
 
 pub keep_append : (P : Key → Bool) (xs ys : List Event) → keep P (xs ++ ys) ≡ keep P xs ++ keep P ys
 keep_append P xs ys = filter-append (λ e. P (key_of e)) xs ys
+
+-- of two keys that cut a list the lower one counts
+pub below_below : (a b : Key) (es : List Event) → a is_upto b → below a (below b es) ≡ below a es
+below_below a b es h = keep_keep (λ j. is_before j a) (λ j. is_before j b) es ∙ keep_same (λ j. is_before j b && is_before j a) (λ j. is_before j a) (λ j. below_and j a b h) es

@@ -1,3 +1,4 @@
-pub mod Rising
-pub mod Leading
-pub mod Undoing
+mod Rising
+mod Leading
+mod Undoing
+pub mod LawLemmas

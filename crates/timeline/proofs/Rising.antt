@@ -1,8 +1,10 @@
 -- Entries whose keys rise, and how a key cuts them.
-use Rattle.std.proofs.Common.{◌≡◌, ℕ, zero, suc, ◌+◌, ◌-◌, List, [], ◌∷◌, ◌++◌, Option, Some, None, Bool, true, false, inl, inr, refl, sym, ap, ◌∙◌, subst, arith, cond, length}
-use Rattle.std.specs.Prelude.{IfSome, filter, not, slice_get}
-use Rattle.std.specs.List.{last_or}
-use Rattle.std.proofs.lemmas.Option.{slice_get_within}
+use Rattle.std.proofs.Common.{◌≡◌, ℕ, zero, suc, ◌+◌, ◌-◌, List, [], ◌∷◌, ◌++◌, Option, Some, None, Bool, true, false, inl, inr, refl, sym, ap, ◌∙◌, subst, arith, cond, length, drop, ◌<◌, ◌≤◌, ◌⊎◌}
+use Rattle.std.specs.Prelude.{IfSome, filter, not, nat_lt, position, slice_get}
+use Rattle.std.specs.List.{last_or, position_or_len}
+use Rattle.std.proofs.lemmas.Option.{none-some, same_Some, slice_get_within}
+use Rattle.std.proofs.lemmas.Bool.{cases_lt, lt-ltb}
+use Rattle.std.proofs.lemmas.List.{drop_all}
 use Rattle.std.proofs.lemmas.List.Filters.{length-filter_both}
 use Rattle.surf_kinds.specs.declared.event.Key.{Key}
 use Rattle.surf_kinds.specs.Keys.{is_before, ◌is_below◌, ◌is_upto◌, keep, AllKeys, IsRising, RiseFrom, RiseStrictly}
@@ -89,20 +91,53 @@ cut_none key (e ∷ entries) all =
 pub all_below : (key : Key) (entries : List Entry) → Rise entries → EndsBelow key entries → (below key entries ≡ entries) × (from key entries ≡ [])
 all_below key entries r last = cut_all key entries (ends_below key entries (rises (events_of entries) r) last)
 
+none_below : (key : Key) (e : Entry) (entries : List Entry) → IsRising (events_of (e ∷ entries)) → key is_upto entry_key e → (below key (e ∷ entries) ≡ []) × (from key (e ∷ entries) ≡ e ∷ entries)
+none_below key e entries r h =
+    cut_none key (e ∷ entries) (h, AllKeys_weaker (λ j. entry_key e is_below j) (λ j. key is_upto j) (λ j l. lt_to_le key j (le_lt key (entry_key e) j h l)) (events_of entries) r.0)
+
 parts_of : (key : Key) (entries : List Entry) → IsRising (events_of entries) → entries ≡ below key entries ++ from key entries
 parts_of key [] r = refl
 parts_of key (e ∷ entries) r =
     elim (key_cases (entry_key e) key) [
       | inl h ↦ ap (λ l. e ∷ l) (parts_of key entries r.1) ∙ (ap (λ l. l ++ from key entries) (sym (below_cons key e entries h)) ∙ ap (λ l. below key (e ∷ entries) ++ l) (sym (from_skip key e entries h)))
       | inr h ↦
-          let later : AllKeys (λ j. key is_upto j) (events_of entries) = AllKeys_weaker (λ j. entry_key e is_below j) (λ j. key is_upto j) (λ j l. lt_to_le key j (le_lt key (entry_key e) j h l)) (events_of entries) r.0 in
-          let none = cut_none key (e ∷ entries) (h, later) in
+          let none = none_below key e entries r h in
           sym (ap (λ l. l ++ from key (e ∷ entries)) none.0 ∙ none.1)
     ]
 
 -- a key parts entries whose keys rise
 pub parts : (key : Key) (entries : List Entry) → Rise entries → entries ≡ below key entries ++ from key entries
 parts key entries r = parts_of key entries (rises (events_of entries) r)
+
+-- how many entries come before the first from a key on
+abbrev count_before : Key → List Entry → ℕ
+count_before key entries = position_or_len (λ e. not (is_before (entry_key e) key)) entries
+
+begins : (key : Key) (entries : List Entry) → IsRising (events_of entries) → drop (count_before key entries) entries ≡ from key entries
+begins key [] r = refl
+begins key (e ∷ entries) r =
+    let n = count_before key entries in
+    let at : Bool → List Entry = λ b. drop (cond (not (not b)) (1 + n) 0) (e ∷ entries) in
+    let next : 1 + n ≡ suc n = omega arith in
+    elim (key_cases (entry_key e) key) [
+      | inl h ↦ ap at h ∙ (ap (λ m. drop m (e ∷ entries)) next ∙ (begins key entries r.1 ∙ sym (from_skip key e entries h)))
+      | inr h ↦ ap at h ∙ sym (none_below key e entries r h).1
+    ]
+
+-- the entries from a key on are those behind the first of them
+pub begins_at : (key : Key) (entries : List Entry) (index : ℕ) → Rise entries → position (λ e. not (is_before (entry_key e) key)) entries ≡ Some index → drop index entries ≡ from key entries
+begins_at key entries index r is = by (nat_lt (count_before key entries) (length entries)) is
+  where
+    by : (b : Bool) → cond b (Some (count_before key entries)) None ≡ Some index → drop index entries ≡ from key entries
+    by true h = ap (λ n. drop n entries) (sym (same_Some (count_before key entries) index h)) ∙ begins key entries (rises (events_of entries) r)
+    by false h = absurd (none-some index h)
+
+pub begins_nowhere : (key : Key) (entries : List Entry) → Rise entries → position (λ e. not (is_before (entry_key e) key)) entries ≡ None → drop (length entries) entries ≡ from key entries
+begins_nowhere key entries r is = by (cases_lt (count_before key entries) (length entries))
+  where
+    by : (count_before key entries < length entries) ⊎ (length entries ≤ count_before key entries) → drop (length entries) entries ≡ from key entries
+    by (inl h) = absurd (none-some (count_before key entries) (sym is ∙ ap (λ b. cond b (Some (count_before key entries)) None) (lt-ltb _ _ h)))
+    by (inr h) = drop_all (length entries) entries (omega arith) ∙ (sym (drop_all (count_before key entries) entries h) ∙ begins key entries (rises (events_of entries) r))
 
 -- no entry is lost
 pub lengths : (key : Key) (entries : List Entry) → length (from key entries) + length (below key entries) ≡ length entries

@@ -1,7 +1,7 @@
 //! Cutting entries at a key, from the last on or from the first.
 
-ghost use Rattle.std.specs.Prelude.{◌≡◌, ◌++◌, ◌∷◌, [], length, IfSome, IfNone, vec_capacity};
-ghost use Rattle.surf_kinds.specs.Keys.{◌is_upto◌, RiseStrictly};
+ghost use Rattle.std.specs.Prelude.{◌≡◌, ◌++◌, ◌∷◌, [], ◌≤◌, length, drop, position, not, IfSome, IfNone, vec_capacity};
+ghost use Rattle.surf_kinds.specs.Keys.{is_before, ◌is_upto◌, RiseStrictly};
 ghost use Rattle.surface_state.specs.SurfaceView.{SurfaceView};
 ghost use Rattle.timeline.specs.TimelineView.{events_of, entry_key, below, from, EndsBelow};
 ghost use Rattle.timeline.specs.Led.{LedTo};
@@ -44,10 +44,35 @@ pub(crate) fn undo_from(entries: &mut Vec<Entry>, key: Key, surface: &mut Surfac
     undone
 }
 
-/// Removes the entries below a key.
+/// The index of the first entry from a key on.
+fn first_from(entries: &[Entry], key: Key) -> Option<usize>
+    ensures { result ≡ position (λ e. not (is_before (entry_key e) key)) entries.now }
+{
+    entries.iter().position(|entry| !entry.key().is_before(key))
+}
+
+/// How many entries come before the first one from a key on.
+fn count_below(entries: &[Entry], key: Key) -> usize
+    requires { RiseStrictly (events_of entries.now) }
+    ensures within { result ≤ length entries.now }
+    ensures rest { drop result entries.now ≡ from key entries.now }
+{
+    match first_from(entries, key) {
+        Some(count) => count,
+        None => entries.len(),
+    }
+}
+
+/// Removes the entries below a key. Those from it on aren't looked at, and moved where one was removed.
 pub(crate) fn forget_below(entries: &mut Vec<Entry>, key: Key)
+    requires { RiseStrictly (events_of entries.old.items) }
     ensures entries { entries.new.items ≡ from key entries.old.items }
     ensures capacity { vec_capacity entries.new ≡ vec_capacity entries.old }
 {
-    entries.retain(|entry| !entry.key().is_before(key));
+    let count = count_below(entries, key);
+    if count > 0 {
+        let rest = entries.len() - count;
+        entries.copy_within(count.., 0);
+        entries.truncate(rest);
+    }
 }

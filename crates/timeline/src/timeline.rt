@@ -79,8 +79,8 @@ impl Timeline {
         undo_from(&mut self.entries, key, surface)
     }
 
-    /// Forgets the entries below a key; what they did to the surface stays. Takes a time that goes with the number of
-    /// all entries.
+    /// Forgets the entries below a key; what they did to the surface stays. Looks at those alone, and moves the others
+    /// where there are any.
     pub fn drop_below(&mut self, key: Key)
         ensures entries { self.new.entries ≡ from key self.old.entries }
         ensures led { (base now : SurfaceView) → LedTo base self.old.entries now → (mid : SurfaceView) × LedTo base (below key self.old.entries) mid × LedTo mid self.new.entries now }

@@ -1,17 +1,20 @@
 -- Parts of a list below a key and from a key on, merged lists, and replays.
-use Rattle.std.proofs.Common.{◌≡◌, true, false, ◌&&◌, List, [], ◌∷◌, ◌++◌, Some, None, inl, inr, refl, sym, ap, ◌∙◌, subst, cond, append-nil}
+use Rattle.std.proofs.Common.{◌≡◌, true, false, List, [], ◌∷◌, ◌++◌, Some, None, inl, inr, refl, sym, ap, ◌∙◌, subst, cond}
 use Rattle.std.specs.Prelude.{not}
 use Rattle.std.proofs.lemmas.Bool.{cases_Bool, not_from_true, not_from_false, not-true}
 use Rattle.std.proofs.lemmas.Option.{none-some}
 use Rattle.surf_kinds.specs.declared.event.Key.{Key}
 use Rattle.surf_kinds.specs.declared.event.Event.{Event}
 use Rattle.border.specs.declared.op.Op.{Op}
-use Rattle.border.specs.declared.op.Op.TheVariants.{Put, Back}
 use Rattle.surf_kinds.specs.Keys.{is_before, same_key, key_of, ◌is_below◌, ◌is_upto◌, at, keep, below, from, AllKeys, IsRising}
 use Rattle.border.specs.Messages.{replay, replay_one, op_key, AllOpsFrom}
+use Rattle.border.proofs.LawLemmas.{rise_replay, below_replay}
 use Rattle.warp_core.specs.Steps.{with_event, with_events}
-use Rattle.surf_kinds.proofs.Order.{lt_to_le, le_refl, key_cases, same_is, not_same_below, below_and}
-use Rattle.surf_kinds.proofs.Tables.{keep_yes, keep_no, at_keep_yes, at_keep_no, AllKeys_weaker, AllKeys_kept, IsRising_keep, IsRising_append, at_append_left, at_append_right, keep_same, keep_keep, keep_swap, keep_all, keep_none, keep_append}
+use Rattle.surf_kinds.proofs.Order.{lt_to_le, le_refl, key_cases, same_is, not_same_below}
+use Rattle.surf_kinds.proofs.Rising.{strictly, rises}
+use Rattle.surf_kinds.proofs.Tables.{at_keep_yes, at_keep_no, AllKeys_weaker, AllKeys_kept, IsRising_keep, IsRising_append, at_append_left, at_append_right, keep_swap, keep_all, keep_none}
+-- the lower of two bounds counts
+pub use Rattle.surf_kinds.proofs.Tables.{below_below}
 
 pub at_below : (k j : Key) (es : List Event) → j is_below k → at j (below k es) ≡ at j es
 at_below k j es h = at_keep_yes (λ i. is_before i k) j es h
@@ -24,10 +27,6 @@ at_from k j es h = at_keep_yes (λ i. not (is_before i k)) j es (not_from_false 
 
 pub at_from_none : (k j : Key) (es : List Event) → j is_below k → at j (from k es) ≡ None
 at_from_none k j es h = at_keep_no (λ i. not (is_before i k)) j es (not_from_true (is_before j k) h)
-
--- the lower of two bounds counts
-pub below_below : (a b : Key) (es : List Event) → a is_upto b → below a (below b es) ≡ below a es
-below_below a b es h = keep_keep (λ j. is_before j a) (λ j. is_before j b) es ∙ keep_same (λ j. is_before j b && is_before j a) (λ j. is_before j a) (λ j. below_and j a b h) es
 
 pub below_all : (k : Key) (es : List Event) → AllKeys (λ j. j is_below k) es → below k es ≡ es
 below_all k es a = keep_all (λ j. is_before j k) es a
@@ -99,42 +98,12 @@ at_put_all_some (e ∷ es) fs k x h =
       | inr p ↦ at_put_other e (with_events es fs) k p ∙ at_put_all_some es fs k x (sym (ap (λ b. cond b (Some e) (at k es)) p) ∙ h)
     ]
 
--- replays
-pub replay_append : (stack : List Event) (xs ys : List Op) → replay stack (xs ++ ys) ≡ replay (replay stack xs) ys
-replay_append stack [] ys = refl
-replay_append stack (x ∷ xs) ys = replay_append (replay_one stack x) xs ys
-
-pub AllOpsFrom_append : (k : Key) (xs ys : List Op) → AllOpsFrom k xs → AllOpsFrom k ys → AllOpsFrom k (xs ++ ys)
-AllOpsFrom_append k [] ys a b = b
-AllOpsFrom_append k (x ∷ xs) ys a b = (a.0, AllOpsFrom_append k xs ys a.1 b)
-
--- messages from a key on leave what lies below it
+-- replays, of one message and below a key
 pub below_replay_one : (k : Key) (stack : List Event) (op : Op) → k is_upto op_key op → below k (replay_one stack op) ≡ below k stack
-below_replay_one k stack (Put e) h =
-    keep_append (λ j. is_before j k) (below (key_of e) stack) (e ∷ [])
-    ∙ (ap (λ l. below k (below (key_of e) stack) ++ l) (keep_no (λ j. is_before j k) e [] h)
-    ∙ (append-nil (below k (below (key_of e) stack)) ∙ below_below k (key_of e) stack h))
-below_replay_one k stack (Back j) h = below_below k j stack h
-
-pub below_replay : (k : Key) (stack : List Event) (ops : List Op) → AllOpsFrom k ops → below k (replay stack ops) ≡ below k stack
-below_replay k stack [] h = refl
-below_replay k stack (op ∷ ops) h = below_replay k (replay_one stack op) ops h.1 ∙ below_replay_one k stack op h.0
+below_replay_one k stack op h = below_replay k stack (op ∷ []) (h, tt)
 
 pub at_replay : (k j : Key) (stack : List Event) (ops : List Op) → AllOpsFrom k ops → j is_below k → at j (replay stack ops) ≡ at j stack
 at_replay k j stack ops h l = sym (at_below k j (replay stack ops) l) ∙ (ap (at j) (below_replay k stack ops h) ∙ at_below k j stack l)
 
--- and act alike on what lies from it on
-pub from_replay_one : (k : Key) (stack : List Event) (op : Op) → k is_upto op_key op → from k (replay_one stack op) ≡ replay_one (from k stack) op
-from_replay_one k stack (Put e) h =
-    keep_append (λ j. not (is_before j k)) (below (key_of e) stack) (e ∷ [])
-    ∙ (ap (λ l. from k (below (key_of e) stack) ++ l) (keep_yes (λ j. not (is_before j k)) e [] (not_from_false (is_before (key_of e) k) h))
-    ∙ ap (λ l. l ++ e ∷ []) (sym (below_from (key_of e) k stack)))
-from_replay_one k stack (Back j) h = sym (below_from j k stack)
-
-pub from_replay : (k : Key) (stack : List Event) (ops : List Op) → AllOpsFrom k ops → from k (replay stack ops) ≡ replay (from k stack) ops
-from_replay k stack [] h = refl
-from_replay k stack (op ∷ ops) h = from_replay k (replay_one stack op) ops h.1 ∙ ap (λ s. replay s ops) (from_replay_one k stack op h.0)
-
 pub IsRising_replay_one : (stack : List Event) (op : Op) → IsRising stack → IsRising (replay_one stack op)
-IsRising_replay_one stack (Put e) r = IsRising_append (key_of e) (below (key_of e) stack) (e ∷ []) (IsRising_keep (λ j. is_before j (key_of e)) stack r) (tt, tt) (AllKeys_below (key_of e) stack) (le_refl (key_of e), tt)
-IsRising_replay_one stack (Back k) r = IsRising_keep (λ j. is_before j k) stack r
+IsRising_replay_one stack op r = rises (replay_one stack op) (rise_replay stack (op ∷ []) (strictly stack r))

@@ -11,7 +11,8 @@ use Rattle.warp_core.specs.World.{World, after_all, is_told_by}
 use Rattle.warp_core.specs.Parts.{IsSound}
 use Rattle.warp_core.specs.Cores.{Core, IsConsistent, base_of}
 use Rattle.warp_core.proofs.Theory.Accepted.{are_sent_accepted}
-use Rattle.warp_core.proofs.Theory.Cuts.{replay_append, from_replay, IsRising_replay_one}
+use Rattle.border.proofs.LawLemmas.{replay_append, from_replay}
+use Rattle.warp_core.proofs.Theory.Cuts.{IsRising_replay_one}
 
 pub sent_append : (w : World) (j i : ℕ) (floor : Key) (xs ys : List Op) → AreSent w j i floor xs → AreSent w j i floor ys → AreSent w j i floor (xs ++ ys)
 sent_append w j i floor [] ys a b = b

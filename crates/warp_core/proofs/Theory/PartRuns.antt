@@ -15,7 +15,7 @@ use Rattle.warp_core.specs.Timelines.{due_at}
 use Rattle.warp_core.specs.Parts.{Part, IsSound, IsNextEntry, HasNoEntry, received_at, PartStep, part_after, step_puts, step_takes, MayStep, part_run, run_puts, run_takes, MayRun, IsRun}
 use Rattle.warp_core.specs.Cores.{Core, IsConsistent, base_of}
 use Rattle.warp_core.proofs.Theory.Accepted.{take_stack}
-use Rattle.warp_core.proofs.Theory.Cuts.{replay_append}
+use Rattle.border.proofs.LawLemmas.{replay_append}
 use Rattle.warp_core.proofs.Theory.Locals.{agree_after_all, raised, rebased}
 use Rattle.warp_core.proofs.Theory.Parts.{applied_sound, ended_sound, take_sound, fired_told, passed_told, take_told, fired_sent, take_sent}
 use Rattle.warp_core.proofs.Theory.Joined.{joined, sent_append}
