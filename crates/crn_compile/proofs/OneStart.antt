@@ -1,7 +1,7 @@
 -- There is one first list of species.
 use Rattle.std.proofs.Common.{◌≡◌, ℕ, ◌*◌, ◌/◌, ◌%◌, ◌<◌, ◌≤◌, inl, inr, List, map, Some, Bool, true, false, sym, ap, ◌∙◌, arith, get_or, ◌==◌, if◌then◌else◌}
 use Rattle.std.specs.List.{range_with_len}
-use Rattle.std.proofs.lemmas.Bool.{cases_lt, lt-ltb, eqb-true, eq-eqb}
+use Rattle.std.proofs.lemmas.Bool.{cases_lt, lt-ltb, eqb-true, eq-eqb, le-ltb}
 use Rattle.std.proofs.lemmas.Nat.{div-add-mod', div_below, mod_below}
 use Rattle.std.proofs.lemmas.List.{same_lists, get_or_default}
 use Rattle.std.proofs.lemmas.List.Sums.{passes_at_first, fails_before_first}
@@ -10,7 +10,6 @@ use Rattle.surf_kinds.specs.declared.site.SpeciesId.{SpeciesId}
 use Rattle.circuit_text.specs.declared.kinds.Net.{Net}
 use Rattle.circuit_text.specs.Values.{bit}
 use Rattle.gate_layout.specs.Table.{Table, Spot, IsSpot, role_at}
-use Rattle.gate_layout.proofs.Places.{not_below}
 use Rattle.crn_compile.specs.Cells.{Wire}
 use Rattle.crn_compile.specs.Species.{id_of}
 use Rattle.crn_compile.specs.Start.{site, no_species, blank_cell, IsStart, input_at, start_cell, start_cells}
@@ -45,7 +44,7 @@ each nets inputs t S start k inside = elim (cases_lt (input_at t k) t.inputs) [
       let within : IsSpot t s = (div_below k t.cols t.rows h inside, mod_below k t.cols h) in
       let here : site t s ≡ k = div-add-mod' k t.cols in
       let e : get_or S k no_species ≡ id_of (blank_cell nets (role_at t s)) = ap (λ n. get_or S n no_species) (sym here) ∙ start.rest s within (λ i. none t k i.0 le i.1 (ap (site t) i.2 ∙ here)) in
-      e ∙ ap (λ b. if b then id_of (Wire (Some (bit inputs (input_at t k)))) else id_of (blank_cell nets (t.role (k / t.cols) (k % t.cols)))) (sym (not_below (input_at t k) t.inputs le))
+      e ∙ ap (λ b. if b then id_of (Wire (Some (bit inputs (input_at t k)))) else id_of (blank_cell nets (t.role (k / t.cols) (k % t.cols)))) (sym (le-ltb (input_at t k) t.inputs le))
 ]
 
 pub start_is : (nets : List Net) (inputs : List Bool) (t : Table) (S : List SpeciesId) → IsStart nets inputs t S → S ≡ start_cells nets inputs t

@@ -3,7 +3,7 @@ use Rattle.std.proofs.Common.{◌≡◌, ℕ, zero, suc, ◌*◌, ◌<◌, ◌�
 use Rattle.std.specs.Option.{option_map}
 use Rattle.std.specs.Prelude.{slice_get, nat_lt}
 use Rattle.std.proofs.lemmas.Option.{none-some, slice_get_within}
-use Rattle.std.proofs.lemmas.Bool.{cases_lt, lt-ltb}
+use Rattle.std.proofs.lemmas.Bool.{cases_lt, lt-ltb, le-ltb}
 use Rattle.circuit_text.specs.declared.kinds.Net.{Net}
 use Rattle.circuit_text.specs.declared.kinds.Net.TheVariants as net
 use Rattle.circuit_text.specs.Values.{input_count}
@@ -18,7 +18,7 @@ use Rattle.gate_layout.specs.Layout.{row_count, column_of, row_of, track, net_ro
 use Rattle.gate_layout.specs.Nets.{AreNumbered}
 use Rattle.gate_layout.proofs.Gates.{input_at, input_has, input_within}
 use Rattle.gate_layout.proofs.Ends.{wire_first}
-use Rattle.gate_layout.proofs.Places.{RowView, OfNet, Below, OfPins, Last, view, row_net, row_between, row_pins, row_bottom, column_is, not_below}
+use Rattle.gate_layout.proofs.Places.{RowView, OfNet, Below, OfPins, Last, view, row_net, row_between, row_pins, row_bottom, column_is}
 use Rattle.gate_layout.proofs.Sources.{SourceView, FromInput, FromGate, source_view, from_east, from_west, from_source}
 use Rattle.gate_layout.proofs.Shows.{no_cross}
 use Rattle.gate_layout.proofs.Fed.{IsInputAt, same_spot, some_nets}
@@ -43,7 +43,7 @@ row_north nets n col is = by (nat_lt col (source nets n)) (nat_lt (source nets n
     by false false is = not_north (slice_get nets n) is
 
 row_west : (nets : List Net) (n : ℕ) → row_side nets n 0 ≡ Some West → ⊥
-row_west nets n is = by (nat_lt 0 (source nets n)) (ap (λ d. if nat_lt 0 (source nets n) then Some East else (if d then Some West else source_side (slice_get nets n))) (sym (not_below (source nets n) 0 (omega arith))) ∙ is)
+row_west nets n is = by (nat_lt 0 (source nets n)) (ap (λ d. if nat_lt 0 (source nets n) then Some East else (if d then Some West else source_side (slice_get nets n))) (sym (le-ltb (source nets n) 0 (omega arith))) ∙ is)
   where
     by : (b : Bool) → (if b then Some East else source_side (slice_get nets n)) ≡ Some West → ⊥
     by true is = cc
@@ -70,7 +70,7 @@ north_in nets _ col half (OfNet zero below) has is =
     by (suc k) h d = no_cross nets (track nets (column_of (gate_count nets) col)) (omega (arith, h))
 
 past_side : (nets : List Net) (r col half : ℕ) → halves nets (role_of nets r col) ≤ half → side_of nets r col half ≡ None
-past_side nets r col half le = ap (λ b. if b then side_in nets (row_of (length nets) r) (column_of (gate_count nets) col) col half else None) (not_below half (halves nets (role_of nets r col)) le)
+past_side nets r col half le = ap (λ b. if b then side_in nets (row_of (length nets) r) (column_of (gate_count nets) col) col half else None) (le-ltb half (halves nets (role_of nets r col)) le)
 
 -- where a half has a side, the role has that half
 side_inside : (nets : List Net) (r col half : ℕ) (d : Side) → side_of nets r col half ≡ Some d → (half < halves nets (role_of nets r col)) × (side_in nets (row_of (length nets) r) (column_of (gate_count nets) col) col half ≡ Some d)

@@ -2,6 +2,7 @@
 use Rattle.std.proofs.Common.{◌≡◌, ℕ, ◌+◌, ◌*◌, ◌<◌, suc, List, length, Some, refl, sym, ap, ◌∙◌, subst, arith, get_or}
 use Rattle.std.specs.Prelude.{slice_get}
 use Rattle.std.proofs.lemmas.Option.{slice_get_within}
+use Rattle.std.proofs.lemmas.Bool.{le-ltb}
 use Rattle.circuit_text.specs.declared.kinds.Net.{Net}
 use Rattle.circuit_text.specs.declared.kinds.Net.TheVariants as net
 use Rattle.circuit_text.specs.Values.{input_count}
@@ -13,12 +14,12 @@ use Rattle.gate_layout.specs.Table.{HasEnds}
 use Rattle.gate_layout.specs.Layout.{row_of, column_of, role_in, role_of, input_cell, layout}
 use Rattle.gate_layout.specs.Nets.{AreNumbered}
 use Rattle.gate_layout.proofs.Gates.{input_at, input_has}
-use Rattle.gate_layout.proofs.Places.{row_net, not_below}
+use Rattle.gate_layout.proofs.Places.{row_net}
 
 column_after : (gates : ℕ) → column_of gates (6 * gates + 2) ≡ Outside
 column_after gates =
     let e : suc (6 * gates + 1) ≡ 6 * gates + 2 = omega arith in
-    subst (λ c. column_of gates c ≡ Outside) e (rw (not_below (6 * gates + 1) (6 * gates) (omega arith)) refl)
+    subst (λ c. column_of gates c ≡ Outside) e (rw (le-ltb (6 * gates + 1) (6 * gates) (omega arith)) refl)
 
 pub wire_first : (nets : List Net) (n : ℕ) → n < length nets → role_of nets (2 * n) 0 ≡ Wire n
 unfolding role_of

@@ -1,8 +1,8 @@
 -- The rows and columns of a layout, one after the other.
 use Rattle.std.proofs.Common.{◌≡◌, ◌≢◌, ℕ, zero, suc, ◌+◌, ◌*◌, ◌/◌, ◌%◌, ◌<◌, ◌≤◌, inl, inr, List, length, Bool, true, false, refl, sym, ap, ◌∙◌, subst, arith, ◌==◌, if◌then◌else◌}
 use Rattle.std.specs.Prelude.{nat_lt, ⊤}
-use Rattle.std.proofs.lemmas.Bool.{cases_lt, cases_eq, ltb-true, lt-ltb, eq-eqb}
-use Rattle.std.proofs.lemmas.Bool.Decides.{leb_tells, eqb_tells}
+use Rattle.std.proofs.lemmas.Bool.{cases_lt, cases_eq, ltb-true, lt-ltb, le-ltb, eq-eqb}
+use Rattle.std.proofs.lemmas.Bool.Decides.{eqb_tells}
 use Rattle.circuit_text.specs.declared.kinds.Net.{Net}
 use Rattle.gate_layout.specs.declared.parts.Part.TheVariants.{FirstPin, Body, SecondPin, Bend, Rise, Gap}
 use Rattle.gate_layout.specs.declared.parts.Column.{Column}
@@ -18,9 +18,6 @@ spot_east : (s cols : ℕ) → s % cols + 1 < cols → ((s + 1) / cols ≡ s / c
 spot_east s cols h =
     let e : s + 1 ≡ s / cols * cols + (s % cols + 1) = omega (arith, div-add-mod' s cols) in
     (ap (λ n. n / cols) e ∙ div-mul-add (s / cols) cols (s % cols + 1) h, ap (λ n. n % cols) e ∙ mod-mul-add (s / cols) cols (s % cols + 1) h)
-
-pub not_below : (a b : ℕ) → b ≤ a → nat_lt a b ≡ false
-not_below a b le = elim (leb_tells (suc a) b) [ inl t ↦ absurd (omega (arith, t.1, le)) | inr f ↦ f.0 ]
 
 pub not_same : (a b : ℕ) → a ≢ b → (a == b) ≡ false
 not_same a b other = elim (eqb_tells a b) [ inl t ↦ absurd (other t.1) | inr f ↦ f.0 ]
@@ -113,10 +110,10 @@ row_between nets n lt =
     rw (lt-ltb (2 * n + 1) (2 * nets) (omega (arith, lt)), z, d) refl
 
 pub row_pins : (nets : ℕ) → row_of nets (2 * nets) ≡ Pins
-row_pins nets = rw (not_below (2 * nets) (2 * nets) (omega arith), eq-eqb (2 * nets) (2 * nets) refl) refl
+row_pins nets = rw (le-ltb (2 * nets) (2 * nets) (omega arith), eq-eqb (2 * nets) (2 * nets) refl) refl
 
 pub row_bottom : (nets : ℕ) → row_of nets (2 * nets + 1) ≡ Bottom
-row_bottom nets = rw (not_below (2 * nets + 1) (2 * nets) (omega arith), not_same (2 * nets + 1) (2 * nets) (omega arith)) refl
+row_bottom nets = rw (le-ltb (2 * nets + 1) (2 * nets) (omega arith), not_same (2 * nets + 1) (2 * nets) (omega arith)) refl
 
 -- which row a number is
 pub data RowView (nets : ℕ) : ℕ → Type 0 where

@@ -2,7 +2,7 @@
 use Rattle.std.proofs.Common.{◌≡◌, ℕ, ◌+◌, ◌*◌, ◌<◌, ◌≤◌, ◌⊎◌, inl, inr, List, length, Option, Some, None, Bool, true, false, refl, sym, ap, subst, arith, rules, if◌then◌else◌}
 use Rattle.std.specs.Prelude.{nat_lt, nat_le, IsSome}
 use Rattle.std.proofs.lemmas.Option.{none-some}
-use Rattle.std.proofs.lemmas.Bool.{cases_lt, lt-ltb, eqb-true, le-leb}
+use Rattle.std.proofs.lemmas.Bool.{cases_lt, lt-ltb, eqb-true, le-leb, le-ltb}
 use Rattle.std.proofs.Math.Nat.{mul-le-mul_right}
 use Rattle.std.proofs.lemmas.Bool.Decides.{leb_tells}
 use Rattle.circuit_text.specs.declared.kinds.Net.{Net}
@@ -13,7 +13,7 @@ use Rattle.gate_layout.specs.declared.parts.Column.TheVariants.{Outside, Of}
 use Rattle.gate_layout.specs.Nets.{gate_count}
 use Rattle.gate_layout.specs.Table.{halves, gate_halves, Feeds, needs}
 use Rattle.gate_layout.specs.Layout.{track, net_role, between_role, pin_a, pin_b, source, stride, distance, down_rank, column_rank, net_rank}
-use Rattle.gate_layout.proofs.Places.{AreNext, not_below}
+use Rattle.gate_layout.proofs.Places.{AreNext}
 
 not_le : (t n : ℕ) → n < t → nat_le t n ≡ false
 not_le t n lt = elim (leb_tells t n) [ inl e ↦ absurd (omega (arith, e.1, lt)) | inr e ↦ e.0 ]
@@ -37,7 +37,7 @@ pub cross_is : (n t : ℕ) → t < n → Cross n t ≡ net_role n (Some t)
 cross_is n t lt = ap (λ b. if b then Cross n t else Wire n) (sym (lt-ltb t n lt))
 
 pub wire_is : (n t : ℕ) → n ≤ t → Wire n ≡ net_role n (Some t)
-wire_is n t le = ap (λ b. if b then Cross n t else Wire n) (sym (not_below t n le))
+wire_is n t le = ap (λ b. if b then Cross n t else Wire n) (sym (le-ltb t n le))
 
 -- the pins are fed from the row above
 pub a_shows : (nets : List Net) (n half x y : ℕ) (o : Option ℕ) → ((t : ℕ) → o ≡ Some t → t ≤ n) → x < y → half < halves nets (pin_a o)

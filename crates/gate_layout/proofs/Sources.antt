@@ -2,7 +2,7 @@
 use Rattle.std.proofs.Common.{◌≡◌, ◌≢◌, ℕ, zero, suc, ◌+◌, ◌*◌, ◌/◌, ◌%◌, ◌<◌, ◌≤◌, List, length, Option, Some, None, Bool, true, false, refl, sym, ap, ◌∙◌, subst, arith, rules, get_or, if◌then◌else◌}
 use Rattle.std.specs.Prelude.{slice_get, nat_lt}
 use Rattle.std.proofs.lemmas.Option.{none-some, slice_get-get_or}
-use Rattle.std.proofs.lemmas.Bool.{ltb-true, lt-ltb}
+use Rattle.std.proofs.lemmas.Bool.{ltb-true, lt-ltb, le-ltb}
 use Rattle.circuit_text.specs.declared.kinds.Net.{Net}
 use Rattle.circuit_text.specs.declared.kinds.Net.TheVariants as net
 use Rattle.gate_layout.specs.declared.parts.Part.TheVariants.{FirstPin, Body, SecondPin, Bend, Rise}
@@ -12,7 +12,7 @@ use Rattle.gate_layout.specs.declared.parts.Side.TheVariants.{East, South, West}
 use Rattle.gate_layout.specs.Nets.{gate_count, net_of, gate_at}
 use Rattle.gate_layout.specs.Layout.{col_count, part_of, column_of, source_in, source, source_side, row_side}
 use Rattle.gate_layout.proofs.Gates.{gate_found}
-use Rattle.gate_layout.proofs.Places.{AreNext, next_column, not_below}
+use Rattle.gate_layout.proofs.Places.{AreNext, next_column}
 
 pub column_rise : (gates g : ℕ) → g < gates → column_of gates (6 * g + 5) ≡ Of g Rise
 column_rise gates g lt =
@@ -45,13 +45,13 @@ pub from_east : (nets : List Net) (n col : ℕ) → col < source nets n → row_
 from_east nets n col lt = ap (λ b. if b then Some East else (if nat_lt (source nets n) col then Some West else source_side (slice_get nets n))) (lt-ltb col (source nets n) lt)
 
 from_not_east : (nets : List Net) (n col : ℕ) → source nets n ≤ col → row_side nets n col ≡ (if nat_lt (source nets n) col then Some West else source_side (slice_get nets n))
-from_not_east nets n col le = ap (λ b. if b then Some East else (if nat_lt (source nets n) col then Some West else source_side (slice_get nets n))) (not_below col (source nets n) le)
+from_not_east nets n col le = ap (λ b. if b then Some East else (if nat_lt (source nets n) col then Some West else source_side (slice_get nets n))) (le-ltb col (source nets n) le)
 
 pub from_west : (nets : List Net) (n col : ℕ) → source nets n < col → row_side nets n col ≡ Some West
 from_west nets n col lt = from_not_east nets n col (omega (arith, lt)) ∙ ap (λ b. if b then Some West else source_side (slice_get nets n)) (lt-ltb (source nets n) col lt)
 
 pub from_source : (nets : List Net) (n col : ℕ) → col ≡ source nets n → row_side nets n col ≡ source_side (slice_get nets n)
-from_source nets n col is = from_not_east nets n col (omega (arith, is)) ∙ ap (λ b. if b then Some West else source_side (slice_get nets n)) (not_below (source nets n) col (omega (arith, is)))
+from_source nets n col is = from_not_east nets n col (omega (arith, is)) ∙ ap (λ b. if b then Some West else source_side (slice_get nets n)) (le-ltb (source nets n) col (omega (arith, is)))
 
 -- a column and the one before it
 
