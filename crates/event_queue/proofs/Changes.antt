@@ -4,11 +4,11 @@ use mathlib.Core.Logic.{⊎_elim}
 use Rattle.std.proofs.lemmas.List.{same_lists, length-set, get_or_append_left, get_or_past, get_or-take, length-take-le}
 use Rattle.std.proofs.lemmas.Bool.{cases_lt}
 use Rattle.event_queue.specs.declared.entry.Entry.{Entry}
-use Rattle.event_queue.specs.Heap.{entry_at, nothing, among, kept_entries, nowhere, filled, located, AreInverse, IsHeap, IsHeapBut}
+use Rattle.event_queue.specs.Heap.{entry_at, nothing, among, entries_by_offset, nowhere, filled, located, AreInverse, IsHeap, IsHeapBut}
 use Rattle.event_queue.proofs.Order.{same_or, parent-less}
 use Rattle.event_queue.proofs.Orders.{but_at}
 use Rattle.event_queue.proofs.Room.{room}
-use Rattle.event_queue.proofs.Views.{among_in, among_out, kept_entries_at, length-kept_entries}
+use Rattle.event_queue.proofs.Views.{among_in, among_out, entries_by_offset_at, length-entries_by_offset}
 
 -- H and P are the heap h of n and its positions p with e written at `at`
 pub record Written (h : List Entry) (p : List ℕ) (H : List Entry) (P : List ℕ) (n m at : ℕ) (e : Entry) : Type 0 where
@@ -83,18 +83,18 @@ module _ (h : List Entry) (p : List ℕ) (H : List Entry) (P : List ℕ) (n m at
       past : (i : ℕ) → (i ≡ at → ⊥) → n ≤ i → m ≤ i
       past i ne out = ⊎_elim (λ l. absurd (omega (arith, w.not_longer i ne l, out))) (λ l. l) (cases_lt i m)
 
-  pub written_kept : kept_entries H m P ≡ set (kept_entries h n p) e.offset (Some e)
-  written_kept = same_lists _ _ (length-kept_entries H m P ∙ w.wide ∙ sym (length-kept_entries h n p) ∙ sym (length-set (kept_entries h n p) e.offset (Some e))) each
+  pub written_entries : entries_by_offset H m P ≡ set (entries_by_offset h n p) e.offset (Some e)
+  written_entries = same_lists _ _ (length-entries_by_offset H m P ∙ w.wide ∙ sym (length-entries_by_offset h n p) ∙ sym (length-set (entries_by_offset h n p) e.offset (Some e))) each
     where
-      each : (k : ℕ) (d : Option Entry) → k < length (kept_entries H m P) → slice_index_or (kept_entries H m P) k d ≡ slice_index_or (set (kept_entries h n p) e.offset (Some e)) k d
-      each k d l = kept_entries_at H m P k d kl ∙ same_or k e.offset
+      each : (k : ℕ) (d : Option Entry) → k < length (entries_by_offset H m P) → slice_index_or (entries_by_offset H m P) k d ≡ slice_index_or (set (entries_by_offset h n p) e.offset (Some e)) k d
+      each k d l = entries_by_offset_at H m P k d kl ∙ same_or k e.offset
           (λ is.
           ap (among H m) (ap (slice_index P) is ∙ w.told_here) ∙ among_in H m at w.at_within ∙ ap (λ (y : Entry). Some y) w.here
-          ∙ sym (ap (λ i. slice_index_or (set (kept_entries h n p) e.offset (Some e)) i d) is ∙ get_or-set_same (kept_entries h n p) e.offset (Some e) d (omega (arith, w.within, length-kept_entries h n p))))
-          (λ nk. still k (omega (arith, kl, w.wide)) nk ∙ sym (get_or-set_other (kept_entries h n p) e.offset k (Some e) d nk ∙ kept_entries_at h n p k d (omega (arith, kl, w.wide))))
+          ∙ sym (ap (λ i. slice_index_or (set (entries_by_offset h n p) e.offset (Some e)) i d) is ∙ get_or-set_same (entries_by_offset h n p) e.offset (Some e) d (omega (arith, w.within, length-entries_by_offset h n p))))
+          (λ nk. still k (omega (arith, kl, w.wide)) nk ∙ sym (get_or-set_other (entries_by_offset h n p) e.offset k (Some e) d nk ∙ entries_by_offset_at h n p k d (omega (arith, kl, w.wide))))
         where
           kl : k < length P
-          kl = omega (arith, l, length-kept_entries H m P)
+          kl = omega (arith, l, length-entries_by_offset H m P)
 
 -- H and P are the heap h of m + 1 and its positions p without the offset o, which stood at `at`; the last entry
 -- stands there, where that was not the last
@@ -200,18 +200,18 @@ module _ (h : List Entry) (p : List ℕ) (H : List Entry) (P : List ℕ) (m o at
       (λ out. among_out H m (slice_index p k) out ∙ sym (among_out h (m + 1) (slice_index p k) (omega (arith, ne, out))))
       (cases_lt (slice_index p k) m))
 
-  pub removed_kept : kept_entries H m P ≡ set (kept_entries h (m + 1) p) o None
-  removed_kept = same_lists _ _ (length-kept_entries H m P ∙ r.wide ∙ sym (length-kept_entries h (m + 1) p) ∙ sym (length-set (kept_entries h (m + 1) p) o None)) each
+  pub removed_entries : entries_by_offset H m P ≡ set (entries_by_offset h (m + 1) p) o None
+  removed_entries = same_lists _ _ (length-entries_by_offset H m P ∙ r.wide ∙ sym (length-entries_by_offset h (m + 1) p) ∙ sym (length-set (entries_by_offset h (m + 1) p) o None)) each
     where
-      each : (k : ℕ) (d : Option Entry) → k < length (kept_entries H m P) → slice_index_or (kept_entries H m P) k d ≡ slice_index_or (set (kept_entries h (m + 1) p) o None) k d
-      each k d l = kept_entries_at H m P k d kl ∙ same_or k o
+      each : (k : ℕ) (d : Option Entry) → k < length (entries_by_offset H m P) → slice_index_or (entries_by_offset H m P) k d ≡ slice_index_or (set (entries_by_offset h (m + 1) p) o None) k d
+      each k d l = entries_by_offset_at H m P k d kl ∙ same_or k o
           (λ is.
           ap (among H m) (ap (slice_index P) is ∙ r.gone) ∙ among_out H m nowhere (omega (arith, small))
-          ∙ sym (ap (λ i. slice_index_or (set (kept_entries h (m + 1) p) o None) i d) is ∙ get_or-set_same (kept_entries h (m + 1) p) o None d (omega (arith, r.within, length-kept_entries h (m + 1) p))))
-          (λ nk. rest_still k (omega (arith, kl, r.wide)) nk ∙ sym (get_or-set_other (kept_entries h (m + 1) p) o k None d nk ∙ kept_entries_at h (m + 1) p k d (omega (arith, kl, r.wide))))
+          ∙ sym (ap (λ i. slice_index_or (set (entries_by_offset h (m + 1) p) o None) i d) is ∙ get_or-set_same (entries_by_offset h (m + 1) p) o None d (omega (arith, r.within, length-entries_by_offset h (m + 1) p))))
+          (λ nk. rest_still k (omega (arith, kl, r.wide)) nk ∙ sym (get_or-set_other (entries_by_offset h (m + 1) p) o k None d nk ∙ entries_by_offset_at h (m + 1) p k d (omega (arith, kl, r.wide))))
         where
           kl : k < length P
-          kl = omega (arith, l, length-kept_entries H m P)
+          kl = omega (arith, l, length-entries_by_offset H m P)
 
   pub removed_heap : IsHeap h (m + 1) → IsHeapBut H m at
   removed_heap heap = but_at h H (m + 1) m at heap (λ k km ka. (omega arith, r.others k km ka))

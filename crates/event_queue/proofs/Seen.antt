@@ -7,8 +7,8 @@ use Rattle.surf_kinds.specs.declared.event.Event.{Event}
 use Rattle.event_queue.specs.declared.entry.Entry.{Entry}
 use Rattle.surf_kinds.specs.declared.place.Place.{Place}
 use Rattle.event_queue.specs.QueueView.{QueueView, HasPlace, event_at}
-use Rattle.event_queue.specs.Heap.{entry_at, nothing, among, kept_entries, AreInverse, event_of, event_if, seen}
-use Rattle.event_queue.proofs.Views.{among_in, among_out, kept_entries_at, length-kept_entries}
+use Rattle.event_queue.specs.Heap.{entry_at, nothing, among, entries_by_offset, AreInverse, event_of, event_if, seen}
+use Rattle.event_queue.proofs.Views.{among_in, among_out, entries_by_offset_at, length-entries_by_offset}
 
 pub event_from : (first : ℕ) (e : Event) → first ≤ e.place.0 → event_of first (record { time = e.time; offset = e.place.0 - first; channel = e.channel }) ≡ e
 event_from first e l =
@@ -17,12 +17,12 @@ event_from first e l =
     ap make back
 
 pub length-seen : (first : ℕ) (h : List Entry) (n : ℕ) (p : List ℕ) → length (seen first h n p).events ≡ length p
-length-seen first h n p = length-map (kept_entries h n p) (event_if first) ∙ length-kept_entries h n p
+length-seen first h n p = length-map (entries_by_offset h n p) (event_if first) ∙ length-entries_by_offset h n p
 
 pub seen_at : (first : ℕ) (h : List Entry) (n : ℕ) (p : List ℕ) (k : ℕ) → k < length p → slice_index_or (seen first h n p).events k None ≡ event_if first (among h n (slice_index p k))
 seen_at first h n p k l =
-    let kl : k < length (kept_entries h n p) = let z = length-kept_entries h n p in omega arith in
-    get_or-map (event_if first) (kept_entries h n p) k None None kl ∙ ap (event_if first) (kept_entries_at h n p k None l)
+    let kl : k < length (entries_by_offset h n p) = let z = length-entries_by_offset h n p in omega arith in
+    get_or-map (event_if first) (entries_by_offset h n p) k None None kl ∙ ap (event_if first) (entries_by_offset_at h n p k None l)
 
 pub seen_in : (first : ℕ) (h : List Entry) (n : ℕ) (p : List ℕ) (k : ℕ) → k < length p → slice_index p k < n → slice_index_or (seen first h n p).events k None ≡ Some (event_of first (entry_at h (slice_index p k)))
 seen_in first h n p k l b = seen_at first h n p k l ∙ ap (event_if first) (among_in h n (slice_index p k) b)
@@ -52,15 +52,15 @@ seen_some first h n p k f e = ⊎_elim
 
 -- one entry of the kept ones is replaced
 pub seen_set : (first : ℕ) (h0 h h1 h2 : List Entry) (n m : ℕ) (p0 p p1 p2 : List ℕ) (o k : ℕ) (y : Option Entry) (z : Option Event) (q : QueueView)
-    → seen first h0 n p0 ≡ q → h ≡ h0 → p ≡ p0 → h2 ≡ h1 → p2 ≡ p1 → kept_entries h1 m p1 ≡ set (kept_entries h n p) o y → event_if first y ≡ z → o ≡ k
+    → seen first h0 n p0 ≡ q → h ≡ h0 → p ≡ p0 → h2 ≡ h1 → p2 ≡ p1 → entries_by_offset h1 m p1 ≡ set (entries_by_offset h n p) o y → event_if first y ≡ z → o ≡ k
     → seen first h2 m p2 ≡ record { first = q.first; events = set q.events k z }
-seen_set first h0 h h1 h2 n m p0 p p1 p2 o k y z q view eh ep eh2 ep2 kept ez ok =
+seen_set first h0 h h1 h2 n m p0 p p1 p2 o k y z q view eh ep eh2 ep2 entries ez ok =
     let from : List (Option Entry) → QueueView = λ ks. record { first = first; events = map (event_if first) ks } in
     let made : List (Option Event) → QueueView = λ es. record { first = first; events = es } in
     let changed : QueueView → QueueView = λ s. record { first = s.first; events = set s.events k z } in
-    let k0 = kept_entries h0 n p0 in
+    let k0 = entries_by_offset h0 n p0 in
     ap (λ x. seen first x m p2) eh2 ∙ ap (λ x. seen first h1 m x) ep2
-    ∙ ap from (kept ∙ ap (λ x. set (kept_entries x n p) o y) eh ∙ ap (λ x. set (kept_entries h0 n x) o y) ep)
+    ∙ ap from (entries ∙ ap (λ x. set (entries_by_offset x n p) o y) eh ∙ ap (λ x. set (entries_by_offset h0 n x) o y) ep)
     ∙ ap made (map-set (event_if first) k0 o y ∙ ap (λ x. set (map (event_if first) k0) o x) ez ∙ ap (λ i. set (map (event_if first) k0) i z) ok)
     ∙ ap changed view
 
@@ -81,8 +81,8 @@ seen_new first h p count long =
     each : (k : ℕ) (d : Option Event) → k < length (seen first h 0 p).events → slice_index_or (seen first h 0 p).events k d ≡ slice_index_or (replicate count None) k d
     each k d l =
         let kl : k < length p = let z = length-seen first h 0 p in omega arith in
-        let kk : k < length (kept_entries h 0 p) = let z = length-kept_entries h 0 p in omega arith in
-        get_or-map (event_if first) (kept_entries h 0 p) k None d kk ∙ ap (event_if first) (kept_entries_at h 0 p k None kl ∙ among_out h 0 (slice_index p k) (omega arith)) ∙ sym (get_or-replicate count k None d (omega arith))
+        let kk : k < length (entries_by_offset h 0 p) = let z = length-entries_by_offset h 0 p in omega arith in
+        get_or-map (event_if first) (entries_by_offset h 0 p) k None d kk ∙ ap (event_if first) (entries_by_offset_at h 0 p k None kl ∙ among_out h 0 (slice_index p k) (omega arith)) ∙ sym (get_or-replicate count k None d (omega arith))
 
 -- a place of the queue by its offset
 pub seen_place : (first : ℕ) (h : List Entry) (n : ℕ) (p : List ℕ) (q : QueueView) (place : Place) → seen first h n p ≡ q → HasPlace q place

@@ -4,7 +4,7 @@ use mathlib.Core.Logic.{⊎_elim}
 use Rattle.std.proofs.lemmas.List.{same_lists, get_or-map, length-map, length-set}
 use Rattle.std.proofs.lemmas.Bool.{ltb-true, ltb-false, lt-ltb, le-ltb, cases_lt}
 use Rattle.event_queue.specs.declared.entry.Entry.{Entry}
-use Rattle.event_queue.specs.Heap.{entry_at, nothing, among, kept_entries, kept_with, filled, located, nowhere, precedes, AreInverse}
+use Rattle.event_queue.specs.Heap.{entry_at, nothing, among, entries_by_offset, entries_with, filled, located, nowhere, precedes, AreInverse}
 use Rattle.event_queue.proofs.Order.{same_or}
 use Rattle.event_queue.proofs.Orders.{Moved}
 
@@ -33,16 +33,16 @@ among_at h h' n m a b e from to = go (ltb b n) refl
 pub position_is : (h : List Entry) (p : List ℕ) (i o : ℕ) → AreInverse h p → i < length h → (entry_at h i).offset ≡ o → slice_index p o ≡ i
 position_is h p i o inv l e = ap (λ k. slice_index p k) (sym e) ∙ inv.position_of i l
 
-pub length-kept_entries : (h : List Entry) (n : ℕ) (p : List ℕ) → length (kept_entries h n p) ≡ length p
-length-kept_entries h n p = length-map p (among h n)
+pub length-entries_by_offset : (h : List Entry) (n : ℕ) (p : List ℕ) → length (entries_by_offset h n p) ≡ length p
+length-entries_by_offset h n p = length-map p (among h n)
 
-pub kept_entries_at : (h : List Entry) (n : ℕ) (p : List ℕ) (k : ℕ) (d : Option Entry) → k < length p → slice_index_or (kept_entries h n p) k d ≡ among h n (slice_index p k)
-kept_entries_at h n p k d l = get_or-map (among h n) p k 0 d l
+pub entries_by_offset_at : (h : List Entry) (n : ℕ) (p : List ℕ) (k : ℕ) (d : Option Entry) → k < length p → slice_index_or (entries_by_offset h n p) k d ≡ among h n (slice_index p k)
+entries_by_offset_at h n p k d l = get_or-map (among h n) p k 0 d l
 
 -- two entries that change places
-pub kept_after_swap : (h h' : List Entry) (p p' : List ℕ) (n i j : ℕ) → Moved h h' i j → AreInverse h p → AreInverse h' p' → length h ≡ n → length h' ≡ n → length p' ≡ length p
-    → i < n → j < n → kept_entries h' n p' ≡ kept_entries h n p
-kept_after_swap h h' p p' n i j sw inv inv' long long' same il jl = same_lists _ _ (length-kept_entries h' n p' ∙ same ∙ sym (length-kept_entries h n p)) at
+pub entries_after_swap : (h h' : List Entry) (p p' : List ℕ) (n i j : ℕ) → Moved h h' i j → AreInverse h p → AreInverse h' p' → length h ≡ n → length h' ≡ n → length p' ≡ length p
+    → i < n → j < n → entries_by_offset h' n p' ≡ entries_by_offset h n p
+entries_after_swap h h' p p' n i j sw inv inv' long long' same il jl = same_lists _ _ (length-entries_by_offset h' n p' ∙ same ∙ sym (length-entries_by_offset h n p)) at
   where
     inside : (k : ℕ) → k < length p → slice_index p k < n → among h' n (slice_index p' k) ≡ among h n (slice_index p k)
     inside k kl ql = same_or (slice_index p k) i
@@ -84,11 +84,11 @@ kept_after_swap h h' p p' n i j sw inv inv' long long' same il jl = same_lists _
         (λ out. ⊎_elim (λ q. absurd (still_out k kl out q)) (λ out'. among_out h' n (slice_index p' k) out' ∙ sym (among_out h n (slice_index p k) out)) (cases_lt (slice_index p' k) n))
         (cases_lt (slice_index p k) n)
 
-    at : (k : ℕ) (d : Option Entry) → k < length (kept_entries h' n p') → slice_index_or (kept_entries h' n p') k d ≡ slice_index_or (kept_entries h n p) k d
-    at k d l = kept_entries_at h' n p' k d l' ∙ inner k kl ∙ sym (kept_entries_at h n p k d kl)
+    at : (k : ℕ) (d : Option Entry) → k < length (entries_by_offset h' n p') → slice_index_or (entries_by_offset h' n p') k d ≡ slice_index_or (entries_by_offset h n p) k d
+    at k d l = entries_by_offset_at h' n p' k d l' ∙ inner k kl ∙ sym (entries_by_offset_at h n p k d kl)
       where
         l' : k < length p'
-        l' = let e = length-kept_entries h' n p' in omega arith
+        l' = let e = length-entries_by_offset h' n p' in omega arith
 
         kl : k < length p
         kl = let e = same in let f = l' in omega arith
@@ -211,8 +211,8 @@ module _ (h : List Entry) (p : List ℕ) (at to : ℕ) (e x : Entry) (inv : AreI
     absent = new_absent;
   }
 
-  pub kept_moves : kept_with (filled h at x) (located p at x) to e ≡ kept_with h p at e
-  kept_moves =
+  pub entries_move : entries_with (filled h at x) (located p at x) to e ≡ entries_with h p at e
+  entries_move =
       let n = length h in
-      ap (λ m. kept_entries (filled (filled h at x) to e) m (located (located p at x) to e)) (length-set h at x)
-      ∙ kept_after_swap (filled h at e) (filled (filled h at x) to e) (located p at e) (located (located p at x) to e) n at to hole_moves inv inverse_moves long long_after same_width al tl
+      ap (λ m. entries_by_offset (filled (filled h at x) to e) m (located (located p at x) to e)) (length-set h at x)
+      ∙ entries_after_swap (filled h at e) (filled (filled h at x) to e) (located p at e) (located (located p at x) to e) n at to hole_moves inv inverse_moves long long_after same_width al tl

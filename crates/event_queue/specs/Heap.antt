@@ -72,12 +72,12 @@ abbrev pub among : List Entry → ℕ → ℕ → Option Entry
 among heap n p = if nat_lt p n then Some (entry_at heap p) else None
 
 -- for each offset its entry, if that is one of the first n
-abbrev pub kept_entries : List Entry → ℕ → List ℕ → List (Option Entry)
-kept_entries heap n positions = map (among heap n) positions
+abbrev pub entries_by_offset : List Entry → ℕ → List ℕ → List (Option Entry)
+entries_by_offset heap n positions = map (among heap n) positions
 
 -- the same with an entry in the hole at a position
-abbrev pub kept_with : List Entry → List ℕ → ℕ → Entry → List (Option Entry)
-kept_with heap positions at e = kept_entries (filled heap at e) (length heap) (located positions at e)
+abbrev pub entries_with : List Entry → List ℕ → ℕ → Entry → List (Option Entry)
+entries_with heap positions at e = entries_by_offset (filled heap at e) (length heap) (located positions at e)
 
 -- the entry's event, if there is an entry
 abbrev pub event_if : ℕ → Option Entry → Option Event
@@ -86,7 +86,7 @@ event_if first (Some e) = Some (event_of first e)
 
 -- the queue whose first n entries are kept
 abbrev pub seen : ℕ → List Entry → ℕ → List ℕ → QueueView
-seen first heap n positions = record { first = first; events = map (event_if first) (kept_entries heap n positions) }
+seen first heap n positions = record { first = first; events = map (event_if first) (entries_by_offset heap n positions) }
 
 -- what is true of every queue, whose heap has room for so many entries
 pub record IsSound (first : ℕ) (heap : List Entry) (room : ℕ) (positions : List ℕ) : Type 0 where

@@ -4,7 +4,7 @@
 //! other, and it is written once, where the hole ends.
 
 ghost use Rattle.std.specs.Prelude.{◌≡◌, ℕ, ◌+◌, ◌*◌, ◌^◌, ◌<◌, ◌≤◌, ◌⊎◌, length, true, false};
-ghost use Rattle.event_queue.specs.Heap.{AreInverse, IsAboveOthers, IsBelowParent, IsHeap, IsHeapBut, entry_at, filled, kept_entries, kept_with, parent, precedes, located};
+ghost use Rattle.event_queue.specs.Heap.{AreInverse, IsAboveOthers, IsBelowParent, IsHeap, IsHeapBut, entry_at, filled, entries_by_offset, entries_with, parent, precedes, located};
 
 use crate::entry::Entry;
 
@@ -33,7 +33,7 @@ fn rise(heap: &mut [Entry], positions: &mut [u32], from: usize, entry: Entry) ->
     ensures within { result < length heap.old }
     ensures inverse { AreInverse (filled heap.new result entry) (located positions.new result entry) }
     ensures heap { IsHeap (filled heap.new result entry) (length heap.old) }
-    ensures kept { kept_with heap.new positions.new result entry ≡ kept_with heap.old positions.old from entry }
+    ensures entries { entries_with heap.new positions.new result entry ≡ entries_with heap.old positions.old from entry }
 {
     let mut at = from;
     while at > 0 {
@@ -101,7 +101,7 @@ fn sink(heap: &mut [Entry], positions: &mut [u32], from: usize, entry: Entry) ->
     ensures within { result < length heap.old }
     ensures inverse { AreInverse (filled heap.new result entry) (located positions.new result entry) }
     ensures heap { IsHeap (filled heap.new result entry) (length heap.old) }
-    ensures kept { kept_with heap.new positions.new result entry ≡ kept_with heap.old positions.old from entry }
+    ensures entries { entries_with heap.new positions.new result entry ≡ entries_with heap.old positions.old from entry }
 {
     let mut at = from;
     while at * 4 + 1 < heap.len() {
@@ -137,7 +137,7 @@ fn hole_for(heap: &mut [Entry], positions: &mut [u32], hole: usize, entry: Entry
     ensures within { result < length heap.old }
     ensures inverse { AreInverse (filled heap.new result entry) (located positions.new result entry) }
     ensures heap { IsHeap (filled heap.new result entry) (length heap.old) }
-    ensures kept { kept_with heap.new positions.new result entry ≡ kept_with heap.old positions.old hole entry }
+    ensures entries { entries_with heap.new positions.new result entry ≡ entries_with heap.old positions.old hole entry }
 {
     if goes_up(heap, hole, entry) {
         rise(heap, positions, hole, entry)
@@ -153,7 +153,7 @@ pub(crate) fn settle(heap: &mut [Entry], positions: &mut [u32], hole: usize, ent
     requires heap { IsHeapBut (filled heap.old hole entry) (length heap.old) hole }
     ensures inverse { AreInverse heap.new positions.new }
     ensures heap { IsHeap heap.new (length heap.old) }
-    ensures kept { kept_entries heap.new (length heap.old) positions.new ≡ kept_with heap.old positions.old hole entry }
+    ensures entries { entries_by_offset heap.new (length heap.old) positions.new ≡ entries_with heap.old positions.old hole entry }
 {
     let at = hole_for(heap, positions, hole, entry);
     put(heap, positions, at, entry);

@@ -3,7 +3,7 @@ use Rattle.std.proofs.lemmas.List.{length-set}
 use Rattle.event_queue.specs.Heap.{entry_at, filled, parent, precedes}
 use Rattle.event_queue.proofs.Order.{parent-less, ne-less}
 use Rattle.event_queue.proofs.Orders.{risen}
-use Rattle.event_queue.proofs.Views.{hole_moves, inverse_moves, kept_moves, e_before}
+use Rattle.event_queue.proofs.Views.{hole_moves, inverse_moves, entries_move, e_before}
 use Rattle.event_queue.proofs.heap.rise.Goals as goal
 
 pub loop-at-preserved : goal.loop-at-preserved
@@ -27,5 +27,5 @@ loop-at-preserved c =
       inverse = inverse_moves h p at up e x inv.inverse al tl ne refl;
       heap = r.0;
       above = r.1;
-      kept = kept_moves h p at up e x inv.inverse al tl ne refl ∙ inv.kept;
+      entries = entries_move h p at up e x inv.inverse al tl ne refl ∙ inv.entries;
     })

@@ -1,5 +1,5 @@
 use Rattle.std.proofs.Common.{◌≡◌, ◌<◌, length}
-use Rattle.event_queue.specs.Heap.{AreInverse, IsAboveOthers, IsHeapBut, filled, kept_with, located}
+use Rattle.event_queue.specs.Heap.{AreInverse, IsAboveOthers, IsHeapBut, filled, entries_with, located}
 use Rattle.event_queue.proofs.heap.rise.Given as goal
 
 abbrev pub invariant-loop-at : goal.invariant-loop-at
@@ -9,7 +9,7 @@ invariant-loop-at l = record {
   inverse : AreInverse (filled l.heap l.at l.entry) (located l.positions l.at l.entry);
   heap : IsHeapBut (filled l.heap l.at l.entry) (length l.initial.heap) l.at;
   above : IsAboveOthers (filled l.heap l.at l.entry) (length l.initial.heap) l.at;
-  kept : kept_with l.heap l.positions l.at l.entry ≡ kept_with l.initial.heap l.initial.positions l.from l.entry;
+  entries : entries_with l.heap l.positions l.at l.entry ≡ entries_with l.initial.heap l.initial.positions l.from l.entry;
 }
 
 abbrev pub decreases-loop-at : goal.decreases-loop-at

@@ -3,7 +3,7 @@ use Rattle.std.proofs.lemmas.List.{length-set}
 use Rattle.event_queue.specs.Heap.{IsHeap, IsHeapBut, entry_at, filled, parent, precedes}
 use Rattle.event_queue.proofs.Order.{ne-more}
 use Rattle.event_queue.proofs.Orders.{sunk, settled, least_filled}
-use Rattle.event_queue.proofs.Views.{hole_moves, inverse_moves, kept_moves, x_before}
+use Rattle.event_queue.proofs.Views.{hole_moves, inverse_moves, entries_move, x_before}
 use Rattle.event_queue.proofs.heap.sink.Goals as goal
 
 pub returns-then-not-is_before-clause-heap : goal.returns-then-not-is_before-clause-heap
@@ -44,5 +44,5 @@ loop-at-preserved c =
       inverse = inverse_moves h p at child e x inv.inverse al of.within ne refl;
       heap = subst (λ n. IsHeapBut (filled (filled h at x) child e) n child) inv.long r.0;
       below = r.1;
-      kept = kept_moves h p at child e x inv.inverse al of.within ne refl ∙ inv.kept;
+      entries = entries_move h p at child e x inv.inverse al of.within ne refl ∙ inv.entries;
     })

@@ -2,9 +2,9 @@ use Rattle.std.proofs.Common.{◌≡◌, ◌∙◌, ◌+◌, ◌-◌, ap, sym, s
 use Rattle.std.proofs.lemmas.List.{with_items_is, length-set, length-take-le}
 use Rattle.std.specs.Vec.{with_item}
 use Rattle.std.proofs.lemmas.Option.{same_Some}
-use Rattle.event_queue.specs.Heap.{IsHeap, entry_at, filled, located, kept_entries, kept_with, nothing, nowhere}
+use Rattle.event_queue.specs.Heap.{IsHeap, entry_at, filled, located, entries_by_offset, entries_with, nothing, nowhere}
 use Rattle.event_queue.proofs.Seen.{seen_set, seen_unset, seen_place, index_read}
-use Rattle.event_queue.proofs.Changes.{closed_up, cut_off, removed_inverse, removed_kept, removed_heap, removed_last}
+use Rattle.event_queue.proofs.Changes.{closed_up, cut_off, removed_inverse, removed_entries, removed_heap, removed_last}
 use Rattle.event_queue.proofs.queue.Queue.drop_at.Goals as goal
 
 pub settle-requires-clause-inverse : goal.settle-requires-clause-inverse
@@ -88,14 +88,14 @@ returns-then-at-len-2 c =
     let long_heap : length s.new.heap ≡ c.pop.new.self.len = s.auto.heap ∙ c.deref_mut.ensures.len in
     let long_positions : length s.new.positions ≡ q.positions.len = s.auto.positions ∙ c.deref_mut-then-at-len-2.ensures.len in
     let short : length (take m heap) ≡ m = length-take-le m heap (omega arith) in
-    let kept : kept_entries s.new.heap (length s.new.heap) s.new.positions ≡ set (kept_entries heap (length heap) q.positions.items) k None =
-    ap (λ n. kept_entries s.new.heap n s.new.positions) s.auto.heap ∙ s.ensures.kept
-    ∙ ap (λ h. kept_with h c.deref_mut-then-at-len-2.result.now at c.in-Some.moved) (c.deref_mut.ensures.value ∙ c.pop.ensures.rest)
-    ∙ ap (λ p. kept_with (take m heap) p at c.in-Some.moved) c.deref_mut-then-at-len-2.ensures.value
-    ∙ ap (λ n. kept_entries (filled (take m heap) at c.in-Some.moved) n (located (set q.positions.items k nowhere) at c.in-Some.moved)) short
-    ∙ removed_kept _ _ _ _ _ _ _ r ∙ ap (λ n. set (kept_entries heap n q.positions.items) k None) (sym long) in
+    let entries : entries_by_offset s.new.heap (length s.new.heap) s.new.positions ≡ set (entries_by_offset heap (length heap) q.positions.items) k None =
+    ap (λ n. entries_by_offset s.new.heap n s.new.positions) s.auto.heap ∙ s.ensures.entries
+    ∙ ap (λ h. entries_with h c.deref_mut-then-at-len-2.result.now at c.in-Some.moved) (c.deref_mut.ensures.value ∙ c.pop.ensures.rest)
+    ∙ ap (λ p. entries_with (take m heap) p at c.in-Some.moved) c.deref_mut-then-at-len-2.ensures.value
+    ∙ ap (λ n. entries_by_offset (filled (take m heap) at c.in-Some.moved) n (located (set q.positions.items k nowhere) at c.in-Some.moved)) short
+    ∙ removed_entries _ _ _ _ _ _ _ r ∙ ap (λ n. set (entries_by_offset heap n q.positions.items) k None) (sym long) in
     rw (with_items_is c.pop.new.self s.new.heap long_heap, with_items_is (with_item q.positions k nowhere) s.new.positions long_positions)
-    (seen_set q.first heap heap s.new.heap s.new.heap (length heap) (length s.new.heap) q.positions.items q.positions.items s.new.positions s.new.positions k (c.args.place.0 - c.args.self.now.first) None None c.args.self.now c.self.view_is refl refl refl refl kept refl place.2)
+    (seen_set q.first heap heap s.new.heap s.new.heap (length heap) (length s.new.heap) q.positions.items q.positions.items s.new.positions s.new.positions k (c.args.place.0 - c.args.self.now.first) None None c.args.self.now c.self.view_is refl refl refl refl entries refl place.2)
 
 pub returns-else-at-len-2 : goal.returns-else-at-len-2
 returns-else-at-len-2 c =
@@ -110,11 +110,11 @@ returns-else-at-len-2 c =
     let r = cut_off heap q.positions.items m k at c.self.invariant.inverse long place.1 is (omega (arith, c.in-Some.ensures.len)) in
     let short : length (take m heap) ≡ m = length-take-le m heap (omega arith) in
     let gone = set q.positions.items k nowhere in
-    let kept : kept_entries (take m heap) (length (take m heap)) gone ≡ set (kept_entries heap (length heap) q.positions.items) k None =
-    ap (λ n. kept_entries (take m heap) n gone) short
-    ∙ removed_kept _ _ _ _ _ _ _ r ∙ ap (λ n. set (kept_entries heap n q.positions.items) k None) (sym long) in
+    let entries : entries_by_offset (take m heap) (length (take m heap)) gone ≡ set (entries_by_offset heap (length heap) q.positions.items) k None =
+    ap (λ n. entries_by_offset (take m heap) n gone) short
+    ∙ removed_entries _ _ _ _ _ _ _ r ∙ ap (λ n. set (entries_by_offset heap n q.positions.items) k None) (sym long) in
     rw c.pop.ensures.rest
-    (seen_set q.first heap heap (take m heap) (take m heap) (length heap) (length (take m heap)) q.positions.items q.positions.items gone gone k (c.args.place.0 - c.args.self.now.first) None None c.args.self.now c.self.view_is refl refl refl refl kept refl place.2)
+    (seen_set q.first heap heap (take m heap) (take m heap) (length heap) (length (take m heap)) q.positions.items q.positions.items gone gone k (c.args.place.0 - c.args.self.now.first) None None c.args.self.now c.self.view_is refl refl refl refl entries refl place.2)
 
 pub returns-else-at-len : goal.returns-else-at-len
 returns-else-at-len c =

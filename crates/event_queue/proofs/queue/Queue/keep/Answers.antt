@@ -2,10 +2,10 @@ use Rattle.std.proofs.Common.{◌≡◌, ◌∙◌, ◌+◌, ◌-◌, ap, sym, s
 use Rattle.std.proofs.lemmas.List.{with_items_is}
 use Rattle.surf_kinds.specs.declared.event.Event.{Event}
 use Rattle.event_queue.specs.declared.entry.Entry.{Entry}
-use Rattle.event_queue.specs.Heap.{AreInverse, IsHeap, filled, located, kept_entries, kept_with}
+use Rattle.event_queue.specs.Heap.{AreInverse, IsHeap, filled, located, entries_by_offset, entries_with}
 use Rattle.event_queue.proofs.Seen.{seen_set, seen_place, event_from, index_read}
 use Rattle.event_queue.proofs.Room.{room}
-use Rattle.event_queue.proofs.Changes.{replaced, added, written_inverse, written_kept}
+use Rattle.event_queue.proofs.Changes.{replaced, added, written_inverse, written_entries}
 use Rattle.event_queue.proofs.queue.Queue.keep.Goals as goal
 
 pub settle-requires-clause-inverse : goal.settle-requires-clause-inverse
@@ -73,13 +73,13 @@ returns-then-at-end c =
     let w = replaced heap q.positions.items at entry c.self.invariant.inverse place.1 is (omega arith) in
     let long_heap : length s.new.heap ≡ q.heap.len = s.auto.heap ∙ c.deref_mut.ensures.len in
     let long_positions : length s.new.positions ≡ q.positions.len = s.auto.positions ∙ c.deref_mut-then-at-end.ensures.len in
-    let kept : kept_entries s.new.heap (length s.new.heap) s.new.positions ≡ set (kept_entries heap n q.positions.items) k (Some entry) =
-    ap (λ m. kept_entries s.new.heap m s.new.positions) s.auto.heap ∙ s.ensures.kept
-    ∙ ap (λ h. kept_with h c.deref_mut-then-at-end.result.now at entry) c.deref_mut.ensures.value
-    ∙ ap (λ p. kept_with heap p at entry) c.deref_mut-then-at-end.ensures.value
-    ∙ written_kept _ _ _ _ _ _ _ _ w in
+    let entries : entries_by_offset s.new.heap (length s.new.heap) s.new.positions ≡ set (entries_by_offset heap n q.positions.items) k (Some entry) =
+    ap (λ m. entries_by_offset s.new.heap m s.new.positions) s.auto.heap ∙ s.ensures.entries
+    ∙ ap (λ h. entries_with h c.deref_mut-then-at-end.result.now at entry) c.deref_mut.ensures.value
+    ∙ ap (λ p. entries_with heap p at entry) c.deref_mut-then-at-end.ensures.value
+    ∙ written_entries _ _ _ _ _ _ _ _ w in
     rw (with_items_is q.heap s.new.heap long_heap, with_items_is q.positions s.new.positions long_positions)
-    (seen_set q.first heap heap s.new.heap s.new.heap n (length s.new.heap) q.positions.items q.positions.items s.new.positions s.new.positions k (e.place.0 - c.args.self.now.first) (Some entry) (Some e) c.args.self.now c.self.view_is refl refl refl refl kept (ap (λ (v : Event). Some v) (event_from q.first e place.0)) place.2)
+    (seen_set q.first heap heap s.new.heap s.new.heap n (length s.new.heap) q.positions.items q.positions.items s.new.positions s.new.positions k (e.place.0 - c.args.self.now.first) (Some entry) (Some e) c.args.self.now c.self.view_is refl refl refl refl entries (ap (λ (v : Event). Some v) (event_from q.first e place.0)) place.2)
 
 pub returns-else-at-end : goal.returns-else-at-end
 returns-else-at-end c =
@@ -98,12 +98,12 @@ returns-else-at-end c =
     let long_heap : length s.new.heap ≡ c.push_reserved.new.self.len = s.auto.heap ∙ c.deref_mut-else-at-end.ensures.len in
     let long_positions : length s.new.positions ≡ q.positions.len = s.auto.positions ∙ c.deref_mut-else-at-end-2.ensures.len in
     let end : c.len-end.result ≡ n = omega arith in
-    let kept : kept_entries s.new.heap (length s.new.heap) s.new.positions ≡ set (kept_entries heap n q.positions.items) k (Some entry) =
-    ap (λ m. kept_entries s.new.heap m s.new.positions) s.auto.heap ∙ s.ensures.kept
-    ∙ ap (λ h. kept_with h c.deref_mut-else-at-end-2.result.now c.len-end.result entry) (c.deref_mut-else-at-end.ensures.value ∙ c.push_reserved.ensures.items)
-    ∙ ap (λ p. kept_with (heap ++ entry ∷ []) p c.len-end.result entry) c.deref_mut-else-at-end-2.ensures.value
-    ∙ ap (λ i. kept_with (heap ++ entry ∷ []) q.positions.items i entry) end
-    ∙ ap (λ m. kept_entries (filled (heap ++ entry ∷ []) n entry) m (located q.positions.items n entry)) longer
-    ∙ written_kept _ _ _ _ _ _ _ _ w in
+    let entries : entries_by_offset s.new.heap (length s.new.heap) s.new.positions ≡ set (entries_by_offset heap n q.positions.items) k (Some entry) =
+    ap (λ m. entries_by_offset s.new.heap m s.new.positions) s.auto.heap ∙ s.ensures.entries
+    ∙ ap (λ h. entries_with h c.deref_mut-else-at-end-2.result.now c.len-end.result entry) (c.deref_mut-else-at-end.ensures.value ∙ c.push_reserved.ensures.items)
+    ∙ ap (λ p. entries_with (heap ++ entry ∷ []) p c.len-end.result entry) c.deref_mut-else-at-end-2.ensures.value
+    ∙ ap (λ i. entries_with (heap ++ entry ∷ []) q.positions.items i entry) end
+    ∙ ap (λ m. entries_by_offset (filled (heap ++ entry ∷ []) n entry) m (located q.positions.items n entry)) longer
+    ∙ written_entries _ _ _ _ _ _ _ _ w in
     rw (with_items_is c.push_reserved.new.self s.new.heap long_heap, with_items_is q.positions s.new.positions long_positions)
-    (seen_set q.first heap heap s.new.heap s.new.heap n (length s.new.heap) q.positions.items q.positions.items s.new.positions s.new.positions k (e.place.0 - c.args.self.now.first) (Some entry) (Some e) c.args.self.now c.self.view_is refl refl refl refl kept (ap (λ (v : Event). Some v) (event_from q.first e place.0)) place.2)
+    (seen_set q.first heap heap s.new.heap s.new.heap n (length s.new.heap) q.positions.items q.positions.items s.new.positions s.new.positions k (e.place.0 - c.args.self.now.first) (Some entry) (Some e) c.args.self.now c.self.view_is refl refl refl refl entries (ap (λ (v : Event). Some v) (event_from q.first e place.0)) place.2)
