@@ -22,7 +22,7 @@ pub use digits::Digits;
 pub use lines::{Cursor, Line, trim};
 pub use numbers::{Dec, read_decimal, read_u64};
 pub use splitting::{Text, Words, word_list};
-pub use texts::{cut_blank, cut_text, first_text_line, trim_text};
+pub use texts::{cut_text, first_text_line, trim_text};
 
 #[cfg(test)]
 mod tests;

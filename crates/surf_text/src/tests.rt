@@ -116,8 +116,8 @@ fn texts_are_cut(rt: HostRuntime) {
     assert_eq!(rt; cut(b"abc", b'='), None);
     assert_eq!(rt; cut_text("é = ö", b'='), Some(("é ", " ö")));
     assert_eq!(rt; cut_text("é", b'='), None);
-    assert_eq!(rt; cut_blank("é\tö"), Some(("é", "ö")));
-    assert_eq!(rt; cut_blank("é"), None);
+    assert_eq!(rt; "é\tö".cut_blank(), Some(("é", "ö")));
+    assert_eq!(rt; "é".cut_blank(), None);
     assert_eq!(rt; first_text_line("é\r\nö\n"), ("é\r", "ö\n"));
     assert_eq!(rt; first_text_line("é"), ("é", ""));
 }

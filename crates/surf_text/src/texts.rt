@@ -31,7 +31,7 @@ pub fn cut_text(text: &str, byte: u8) -> Option<(&str, &str)>
 
 /// What stands before the first blank, and what stands after it; `None` where there is no blank. A blank is a
 /// space, a tab or a carriage return.
-pub fn cut_blank(text: &str) -> Option<(&str, &str)>
+pub(crate) fn cut_blank(text: &str) -> Option<(&str, &str)>
     ensures parts { option_map (λ p. (p.0.now, p.1.now)) result ≡ cut_where is_blank text.now }
     ensures shorter { IfSome result (λ p. length p.1.now < length text.now) }
 {
