@@ -22,7 +22,8 @@ use Rattle.surface_state.specs.Changes.{applied, IsSecondOf}
 use Rattle.surface_state.proofs.LawLemmas.{applied_after}
 use Rattle.next_events.specs.Entries.{all_places, CoversRange, IsRefreshed}
 use Rattle.next_events.proofs.LawLemmas.{covers_all, up_to_date_after}
-use Rattle.one_engine.specs.State.{State, LeavesWithin}
+use Rattle.one_engine.specs.State.{State}
+use Rattle.plan.specs.Products.{LeavesWithin}
 use Rattle.one_engine.specs.Running.{each_place, IsSettled, IsRunning, CanFire}
 use Rattle.one_engine.proofs.Settled.{settled_after, can_fire}
 

@@ -20,7 +20,7 @@ use Rattle.plan.specs.History.{due}
 use Rattle.plan.specs.Products.{products_of}
 use Rattle.plan.proofs.LawLemmas.{offer_fits, offer_later, fits_is_place, fits_is_channel, due_next}
 use Rattle.surface_state.specs.Changes.{AreBelow}
-use Rattle.one_engine.specs.State.{LeavesWithin}
+use Rattle.plan.specs.Products.{LeavesWithin}
 use Rattle.one_engine.specs.Running.{IsSettled, CanFire}
 
 -- what holds of each site of a list holds of one that is looked up, and the other way round

@@ -8,7 +8,7 @@ use Rattle.event_queue.specs.QueueView.{QueueView}
 use Rattle.plan.specs.Network.{Network}
 use Rattle.surface_state.specs.SurfaceView.{SurfaceView}
 use Rattle.next_events.specs.Entries.{all_places, CoversRange, AreUpToDate}
-use Rattle.one_engine.specs.State.{LeavesWithin}
+use Rattle.plan.specs.Products.{LeavesWithin}
 
 -- every place is one of the queue's
 abbrev pub each_place : ℕ → Bool

@@ -1,11 +1,10 @@
 -- What an engine is seen as, and what its calls make of it.
-use Rattle.std.specs.Prelude.{◌≡◌, ℕ, ◌<◌, List, [], ◌∷◌, Option, Some, None, MatchOption}
-use Rattle.surf_kinds.specs.declared.rule.Rule.{Rule}
-use Rattle.surf_kinds.specs.declared.rule.Rule.TheVariants.{One, Two}
+use Rattle.std.specs.Prelude.{◌≡◌, ℕ, List, [], ◌∷◌, Option, Some, None, MatchOption}
 use Rattle.surf_kinds.specs.declared.event.Event.{Event}
 use Rattle.lattice.specs.Surface.{after}
 use Rattle.plan.specs.Network.{Network}
 use Rattle.plan.specs.History.{due, history}
+pub use Rattle.plan.specs.Products.{LeavesWithin}
 use Rattle.surface_state.specs.SurfaceView.{SurfaceView}
 
 -- the rules on a lattice with the seed of their draws, and what stands at the sites
@@ -34,8 +33,3 @@ IsFiring until s answer t = (answer ≡ due s.network until s.surface.sites) × 
 abbrev pub AreFirings : ℕ → State → List Event → State → Type 0
 AreFirings until s [] t = IsFiring until s None t
 AreFirings until s (e ∷ es) t = (u : State) × IsFiring until s (Some e) u × AreFirings until u es t
-
--- the species that the rule leaves have numbers below the number of species
-abbrev pub LeavesWithin : ℕ → Rule → Type 0
-LeavesWithin species_count (One rate a c) = c.0 < species_count
-LeavesWithin species_count (Two rate a b c d) = (c.0 < species_count) × (d.0 < species_count)

@@ -2,7 +2,8 @@
 
 ghost use Rattle.std.specs.Prelude.{◌≡◌, ◌^◌, ◌≤◌, ◌*◌, ◌∷◌, [], All, IfOk, MatchOption};
 ghost use Rattle.plan.specs.History.{due};
-ghost use Rattle.one_engine.specs.State.{fired, history_from, LeavesWithin};
+ghost use Rattle.one_engine.specs.State.{fired, history_from};
+ghost use Rattle.plan.specs.Products.{LeavesWithin};
 
 use event_queue::Queue;
 use lattice::PlaceRange;

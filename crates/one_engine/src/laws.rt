@@ -12,7 +12,8 @@ ghost use Rattle.plan.specs.Bounds.{IsWithinBounds};
 ghost use Rattle.plan.specs.History.{due};
 ghost use Rattle.plan.specs.Products.{products_of};
 ghost use Rattle.surface_state.specs.Changes.{AreBelow};
-ghost use Rattle.one_engine.specs.State.{State, fired_all, history_from, AreFirings, LeavesWithin};
+ghost use Rattle.one_engine.specs.State.{State, fired_all, history_from, AreFirings};
+ghost use Rattle.plan.specs.Products.{LeavesWithin};
 ghost use Rattle.one_engine.specs.Running.{CanFire, IsSettled};
 
 /// The answers of `fire`, called again and again up to a tick until it answers None, are the events of the history, in

@@ -1,6 +1,6 @@
 -- What is known of an event that a place offers.
 use Rattle.std.proofs.Common.{◌≡◌, ℕ, ◌<◌, ◌≤◌, List, length, Option, Some, None, Bool, true, false, inl, inr, refl, sym, ap, ◌∙◌, ◌+◌, arith, subst, if◌then◌else◌}
-use Rattle.std.specs.Prelude.{slice_get, ⊤, option_and_then, is_some, nat_lt, not, ◌==◌, ◌&&◌, ◌||◌}
+use Rattle.std.specs.Prelude.{slice_get, option_and_then, is_some, nat_lt, not, ◌==◌, ◌&&◌, ◌||◌}
 use Rattle.std.specs.Option.{option_map}
 use Rattle.std.proofs.lemmas.Bool.{and_parts, false≢true}
 use Rattle.std.proofs.lemmas.Option.{none-some, same_Some}

@@ -1,5 +1,5 @@
 -- What a channel leaves at the sites of its place, and whether it fits them.
-use Rattle.std.specs.Prelude.{ℕ, List, Option, Some, None, Bool, true, false, not, is_some, ◌==◌, ◌&&◌, ◌||◌, if◌then◌else◌, slice_get}
+use Rattle.std.specs.Prelude.{ℕ, ◌<◌, List, Option, Some, None, Bool, true, false, not, is_some, ◌==◌, ◌&&◌, ◌||◌, if◌then◌else◌, slice_get}
 use Rattle.std.specs.Option.{option_map}
 use Rattle.surf_kinds.specs.declared.rule.Rule.{Rule}
 use Rattle.surf_kinds.specs.declared.rule.Rule.TheVariants.{One, Two}
@@ -13,6 +13,11 @@ use Rattle.plan.specs.Network.{Network}
 -- what the channel's rule leaves in the channel's way
 abbrev pub products_of : List Rule → ℕ → Option (SpeciesId × Option SpeciesId)
 products_of rules channel = option_map (products (way_of_channel channel)) (slice_get rules (rule_of_channel channel))
+
+-- the species that the rule leaves have numbers below the number of species
+abbrev pub LeavesWithin : ℕ → Rule → Type 0
+LeavesWithin species_count (One rate a c) = c.0 < species_count
+LeavesWithin species_count (Two rate a b c d) = (c.0 < species_count) × (d.0 < species_count)
 
 abbrev pub has_two : Rule → Bool
 has_two (One rate a c) = false

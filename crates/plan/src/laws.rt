@@ -1,17 +1,15 @@
 //! Laws of the simulation, over its definitions alone.
 
-ghost use Rattle.std.specs.Prelude.{◌≡◌, ◌≢◌, ◌<◌, ◌≤◌, ◌*◌, ◌⊎◌, ◌↔◌, ◌∷◌, ◌++◌, [], ℕ, List, Option, Some, None, All, IfSome, is_some, true, false, slice_get};
+ghost use Rattle.std.specs.Prelude.{◌≡◌, ◌<◌, ◌≤◌, ◌⊎◌, ◌∷◌, ◌++◌, [], ℕ, List, Option, Some, None, IfSome, is_some, true, false, slice_get};
 ghost use Rattle.surf_kinds.specs.declared.event.Event.{Event};
 ghost use Rattle.surf_kinds.specs.declared.event.Key.{Key};
 ghost use Rattle.surf_kinds.specs.declared.rule.Rule.{Rule};
 ghost use Rattle.surf_kinds.specs.declared.site.SiteState.{SiteState};
-ghost use Rattle.surf_kinds.specs.declared.site.SiteId.{SiteId};
-ghost use Rattle.surf_kinds.specs.declared.site.Sites.{Sites};
 ghost use Rattle.surf_kinds.specs.declared.site.SpeciesId.{SpeciesId};
 ghost use Rattle.surf_kinds.specs.Keys.{RiseStrictly, at, below, is_earlier, key_of};
 ghost use Rattle.lattice.specs.Shape.{Shape};
-ghost use Rattle.lattice.specs.Places.{sites_of, HasSite, IsAmong, IsPlace};
-ghost use Rattle.lattice.specs.Surface.{after, after_all, first_surface, IsChannelOf};
+ghost use Rattle.lattice.specs.Places.{sites_of, HasSite, IsPlace};
+ghost use Rattle.lattice.specs.Surface.{after, after_all, IsChannelOf};
 ghost use Rattle.plan.specs.Network.{Network};
 ghost use Rattle.plan.specs.Offered.{IsOffered};
 ghost use Rattle.plan.specs.Next.{next, least};
@@ -19,17 +17,8 @@ ghost use Rattle.plan.specs.Sharing.{ShareSite};
 ghost use Rattle.plan.specs.Products.{fits_place, products_of};
 ghost use Rattle.plan.specs.History.{due, history, if_at, AreNext, IsHistory, IsIn};
 
-/// The two sites of a place differ, and two places with the same sites are equal, on each lattice.
-pub fn places_differ()
-    ensures two_sites { (l : Shape) (place : ℕ) (p : Sites) (n : SiteId) → sites_of l place ≡ Some p → p.second ≡ Some n → n.0 ≢ p.first.0 }
-    ensures same_sites { (l : Shape) (p q : ℕ) (x y : Sites) → sites_of l p ≡ Some x → sites_of l q ≡ Some y → ((s : ℕ) → IsAmong s x ↔ IsAmong s y) → p ≡ q }
-{}
-
-/// After events whose keys rise strictly, at ticks from 1 on, the version of each site is at most 7 times its last.
-pub fn versions_within()
-    ensures { (l : Shape) (rules : List Rule) (cells : List SpeciesId) (es : List Event)
-        → RiseStrictly es → All (λ e. 1 ≤ e.time) es → All (λ s. s.version ≤ 7 * s.last) (after_all l rules (first_surface cells) es) }
-{}
+/// The laws of places and of versions, which are about the lattice alone.
+pub use lattice::laws::{places_differ, seven_rewritings_a_tick};
 
 /// The event that a place offers is at the place, by a channel whose rule matches what stands there, so its channel fits
 /// it, and it comes after the last rewriting of each of the place's sites. What a place offers depends on its own sites

@@ -1,15 +1,14 @@
 -- The surface of a region: entries that lead to it from a base, each undone in turn.
-use Rattle.std.specs.Prelude.{◌≡◌, ℕ, ◌^◌, ◌<◌, ◌≤◌, List, [], ◌∷◌, ◌++◌, All}
+use Rattle.std.specs.Prelude.{◌≡◌, ℕ, ◌^◌, ◌≤◌, List, [], ◌∷◌, ◌++◌, All}
 use Rattle.surf_kinds.specs.declared.event.Event.{Event}
 use Rattle.surf_kinds.specs.declared.event.Key.{Key}
 use Rattle.surf_kinds.specs.declared.site.SpeciesId.{SpeciesId}
-use Rattle.surf_kinds.specs.declared.rule.Rule.{Rule}
-use Rattle.surf_kinds.specs.declared.rule.Rule.TheVariants.{One, Two}
 use Rattle.surf_kinds.specs.Keys.{AllKeys, IsRising}
 use Rattle.lattice.specs.Shape.{Shape}
 use Rattle.lattice.specs.Places.{IsPlace}
 use Rattle.lattice.specs.Surface.{after_all, first_surface}
 use Rattle.plan.specs.Network.{Network}
+use Rattle.plan.specs.Products.{LeavesWithin}
 use Rattle.surface_state.specs.SurfaceView.{SurfaceView}
 use Rattle.timeline.specs.declared.entry.Entry.{Entry}
 use Rattle.timeline.specs.TimelineView.{events_of}
@@ -29,11 +28,6 @@ RunTo n s (e ∷ es) now = (next : SurfaceView) × IsStepBy n s e next × RunTo 
 -- a tick at which an event may come
 abbrev pub IsTimely : Key → Type 0
 IsTimely k = (1 ≤ k.time) × (k.time ≤ 10 ^ 15)
-
--- the species that the rule leaves are below the number of species
-abbrev pub LeavesWithin : ℕ → Rule → Type 0
-LeavesWithin species_count (One rate a c) = c.0 < species_count
-LeavesWithin species_count (Two rate a b c d) = (c.0 < species_count) × (d.0 < species_count)
 
 -- The base is the first surface after past events, the entries lead from it to the surface s, and all keys rise.
 pub record IsGround (n : Network) (cells : List SpeciesId) (past : List Event) (base : SurfaceView) (es : List Entry) (s : SurfaceView) : Type 0 where

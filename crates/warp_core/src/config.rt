@@ -35,7 +35,7 @@ impl Config {
     ghost use Rattle.warp_core.specs.Parts.{IsNextEntry, HasNoEntry};
     ghost use Rattle.warp_core.specs.Cores.{base_of, first_core};
     ghost use Rattle.warp_core.specs.Steps.{IsPrefixOf};
-    ghost use Rattle.warp_core.specs.Grounds.{LeavesWithin};
+    ghost use Rattle.plan.specs.Products.{LeavesWithin};
     ghost use Rattle.warp_core.specs.declared.step.Step.TheVariants.{Fire, Pass, Take, Commit};
     ghost use Rattle.warp_core.specs.Configs.{core_of, region_count, setting_of, IsFresh, IsConfigOf, NamesRegions, Makes, Tries};
 

@@ -1,5 +1,5 @@
 ghost use Rattle.std.specs.Prelude.{◌≡◌, ◌<◌, ◌≤◌, length, All, IsTrue};
-ghost use Rattle.warp_core.specs.Grounds.{LeavesWithin};
+ghost use Rattle.plan.specs.Products.{LeavesWithin};
 ghost use Rattle.warp_core.specs.Configs.{NamesRegions};
 
 use super::*;
@@ -82,7 +82,7 @@ impl Model for Walk {
 
 impl Walk {
     ghost use Rattle.std.specs.Prelude.{◌≡◌, ◌<◌, ◌≤◌, ◌^◌, ◌*◌, length, All};
-    ghost use Rattle.warp_core.specs.Grounds.{LeavesWithin};
+    ghost use Rattle.plan.specs.Products.{LeavesWithin};
 
     /// The first configuration on a surface of these cells.
     fn new(

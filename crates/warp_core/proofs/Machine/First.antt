@@ -17,7 +17,8 @@ use Rattle.regions.specs.Bands.{Bands, IsCut}
 use Rattle.warp_core.specs.Simulation.{world_in}
 use Rattle.warp_core.specs.Parts.{Part}
 use Rattle.warp_core.specs.Cores.{first_core, IsConsistent}
-use Rattle.warp_core.specs.Grounds.{IsGround, LeavesWithin}
+use Rattle.warp_core.specs.Grounds.{IsGround}
+use Rattle.plan.specs.Products.{LeavesWithin}
 use Rattle.warp_core.specs.Regions.{part_of, outbox_of, IsFirstRegion}
 use Rattle.warp_core.specs.FirstRegions.{AreFirst}
 use Rattle.warp_core.specs.Configs.{core_of, setting_of, IsFresh, IsHome, IsConfigOf}

@@ -10,7 +10,7 @@ use Rattle.surf_kinds.specs.declared.site.SpeciesId.{SpeciesId}
 use Rattle.lattice.specs.Channels.{products}
 use Rattle.plan.specs.Products.{products_of}
 use Rattle.surface_state.specs.Changes.{AreBelow}
-use Rattle.warp_core.specs.Grounds.{LeavesWithin}
+use Rattle.plan.specs.Products.{LeavesWithin}
 
 leaves : (species_count way : ℕ) (rule : Rule) → LeavesWithin species_count rule → AreBelow species_count (products way rule).0 (products way rule).1
 leaves species_count way (One rate a c) h = (h, tt)

@@ -22,7 +22,8 @@ use Rattle.timeline.specs.declared.entry.Entry.{Entry}
 use Rattle.timeline.specs.TimelineView.{events_of, IsLater, below, from}
 use Rattle.timeline.specs.Led.{LedTo}
 use Rattle.timeline.proofs.LawLemmas.{step_applied, parts}
-use Rattle.warp_core.specs.Grounds.{IsStepBy, RunTo, IsTimely, LeavesWithin, IsGround, ArePlaces}
+use Rattle.warp_core.specs.Grounds.{IsStepBy, RunTo, IsTimely, IsGround, ArePlaces}
+use Rattle.plan.specs.Products.{LeavesWithin}
 use Rattle.warp_core.proofs.Machine.Runs.{led, run_parted, run_pushed, run_gives, events-append, events-below, events-from}
 
 -- lists of events

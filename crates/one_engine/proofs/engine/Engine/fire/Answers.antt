@@ -13,12 +13,12 @@ use Rattle.one_engine.proofs.engine.Engine.fire.Goals as goal
 pub products-products-requires : goal.products-products-requires
 products-products-requires c =
     let i = c.self.inside in
-    (can_fire_least i.plan i.surface i.queue c.args.until c.in-Some.event c.self.invariant c.in-Some.ensures.least c.if-event-until.true).channel
+    (can_fire_least i.plan i.surface i.queue c.args.until c.in-Some.event c.self.invariant c.in-Some.ensures.least (omega (arith, c.if-event-until.true))).channel
 
 pub apply-requires-clause-pair : goal.apply-requires-clause-pair
 apply-requires-clause-pair c =
     let i = c.self.inside in
-    fits_pair i.plan i.surface i.queue c.args.until c.in-Some.event c.products-products.result c.self.invariant c.in-Some.ensures.least c.if-event-until.true c.products-products.ensures
+    fits_pair i.plan i.surface i.queue c.args.until c.in-Some.event c.products-products.result c.self.invariant c.in-Some.ensures.least (omega (arith, c.if-event-until.true)) c.products-products.ensures
 
 pub apply-requires-clause-species : goal.apply-requires-clause-species
 apply-requires-clause-species c =
@@ -29,13 +29,13 @@ pub apply-requires-clause-room : goal.apply-requires-clause-room
 apply-requires-clause-room c =
     let i = c.self.inside in
     subst (λ (l : Shape). HasRoom l i.surface.sites c.in-Some.event.place.0) (sym c.self.invariant.lattice)
-    (can_fire_least i.plan i.surface i.queue c.args.until c.in-Some.event c.self.invariant c.in-Some.ensures.least c.if-event-until.true).has_room
+    (can_fire_least i.plan i.surface i.queue c.args.until c.in-Some.event c.self.invariant c.in-Some.ensures.least (omega (arith, c.if-event-until.true))).has_room
 
 pub refresh-requires-clause-bounds : goal.refresh-requires-clause-bounds
 refresh-requires-clause-bounds c =
     let i = c.self.inside in
     settled_within c.apply.new.self.sites
-    (settled_still i.plan i.surface c.apply.new.self i.queue c.args.until c.in-Some.event c.self.invariant c.in-Some.ensures.least c.if-event-until.true c.requires
+    (settled_still i.plan i.surface c.apply.new.self i.queue c.args.until c.in-Some.event c.self.invariant c.in-Some.ensures.least (omega (arith, c.if-event-until.true)) c.requires
     (same_after i.plan i.surface c.apply.new.self c.in-Some.event c.products-products.result c.self.invariant.lattice c.products-products.ensures c.apply.ensures.surface))
 
 pub refresh-requires-clause-covers : goal.refresh-requires-clause-covers
@@ -44,14 +44,14 @@ refresh-requires-clause-covers c = covers_all c.self.inside.plan.lattice c.self.
 pub invariant_of-self : goal.invariant_of-self
 invariant_of-self c =
     let i = c.self.inside in
-    runs_on i.plan i.surface c.apply.new.self i.queue c.refresh.new.queue c.args.until c.in-Some.event c.self.invariant c.in-Some.ensures.least c.if-event-until.true c.requires
+    runs_on i.plan i.surface c.apply.new.self i.queue c.refresh.new.queue c.args.until c.in-Some.event c.self.invariant c.in-Some.ensures.least (omega (arith, c.if-event-until.true)) c.requires
     (same_after i.plan i.surface c.apply.new.self c.in-Some.event c.products-products.result c.self.invariant.lattice c.products-products.ensures c.apply.ensures.surface)
     c.refresh.ensures
 
 pub returns-in-Some-clause-due : goal.returns-in-Some-clause-due
 returns-in-Some-clause-due c =
     let i = c.self.inside in
-    sym (fires_due i.plan i.surface i.queue c.args.until c.in-Some.event c.self.invariant c.in-Some.ensures.least c.if-event-until.true)
+    sym (fires_due i.plan i.surface i.queue c.args.until c.in-Some.event c.self.invariant c.in-Some.ensures.least (omega (arith, c.if-event-until.true)))
     ∙ ap (λ (v : State). due v.network c.args.until v.surface.sites) c.self.view_is
 
 pub returns-in_default-clause-due : goal.returns-in_default-clause-due
