@@ -8,3 +8,9 @@ pub mod Commits
 pub mod Runs
 pub mod PartRuns
 pub mod Later
+pub mod Delivers
+pub mod Catches
+pub mod Passes
+pub mod LeastNext
+pub mod Sweeps
+pub mod Settles

@@ -13,3 +13,5 @@ pub mod Configs
 pub mod Commits
 pub mod FirstRegions
 pub mod Tried
+pub mod Settling
+pub mod SettlingLoops

@@ -1,6 +1,6 @@
 //! Laws of the core, over its definitions alone, for every world that meets the laws of a simulation.
 
-ghost use Rattle.std.specs.Prelude.{◌≡◌, ◌<◌, ◌≤◌, ◌^◌, ◌++◌, ℕ, List, Option, Bool, Some};
+ghost use Rattle.std.specs.Prelude.{◌≡◌, ◌<◌, ◌≤◌, ◌+◌, ◌^◌, ◌++◌, ◌⊎◌, ℕ, List, [], Option, Bool, Some, length};
 ghost use Rattle.surf_kinds.specs.declared.event.Event.{Event};
 ghost use Rattle.surf_kinds.specs.declared.event.Key.{Key};
 ghost use Rattle.surf_kinds.specs.declared.site.SiteState.{SiteState};
@@ -8,13 +8,14 @@ ghost use Rattle.surf_kinds.specs.Keys.{key_of, below, from, ◌is_below◌, ◌
 ghost use Rattle.border.specs.declared.op.Op.{Op as Message};
 ghost use Rattle.plan.specs.Network.{Network};
 ghost use Rattle.regions.specs.Bands.{Bands, IsCut};
-ghost use Rattle.warp_core.specs.World.{World, IsWorld, IsMonotone, Agree, after_all};
+ghost use Rattle.warp_core.specs.World.{World, IsWorld, IsMonotone, Agree, after_all, end_key};
 ghost use Rattle.warp_core.specs.Simulation.{world_of};
 ghost use Rattle.warp_core.specs.Timelines.{IsLocal};
 ghost use Rattle.warp_core.specs.Parts.{Part, PartStep, IsSound, MayRun, IsRun, part_run, run_puts, run_takes};
 ghost use Rattle.warp_core.specs.Cores.{Core, IsConsistent, base_of, first_core};
 ghost use Rattle.warp_core.specs.declared.step.Step.{Step};
-ghost use Rattle.warp_core.specs.Steps.{StepOf, StepsOf, IsPrefixOf};
+ghost use Rattle.warp_core.specs.Steps.{StepOf, StepsOf, IsPrefixOf, MayCommit, own_events_below};
+ghost use Rattle.warp_core.specs.Settling.{load, lag, AreTakes, AreEmpty, ArePast, TakesTo, IsLeastNext, IsLeastClock, IsPass, IsSettling, IsSettled};
 
 /// At most one timeline is local: for given places, base surface, floor, incoming events and clock.
 pub fn one_timeline_is_local()
@@ -101,4 +102,34 @@ pub fn offers_come_late()
 pub fn the_simulation_is_a_world()
     ensures world { (n : Network) (b : Bands) (until : ℕ) (start : List SiteState) → IsCut b → b.lattice ≡ n.lattice → until ≤ 10 ^ 15 → IsWorld (world_of n b until start) }
     ensures monotone { (n : Network) (b : Bands) (until : ℕ) (start : List SiteState) → IsMonotone (world_of n b until start) }
+{}
+
+/// Each message that is taken makes the load less: the messages on their way, and the events of which other regions
+/// were told. So there are no more Takes one after another than the load at first, and deliveries end.
+pub fn deliveries_end()
+    ensures falls { (w : World) (old new : Core) (j i : ℕ) → StepOf w old (Step.Take j i) new → load w new < load w old }
+    ensures all { (w : World) (old new : Core) (steps : List Step) → AreTakes steps → StepsOf w old steps new → length steps + load w new ≤ load w old }
+{}
+
+/// Catching up ends. With all messages delivered let m be the least next key, below the end key. In a pass each region
+/// that isn't past m makes one step; then all messages are delivered again. This makes the lag less as long as some
+/// region isn't past m, and after two passes all are.
+pub fn catching_up_ends()
+    ensures begins { (w : World) → IsWorld w → (c : Core) (m : Key) → IsConsistent w c → AreEmpty w c → IsLeastNext w c w.regions m → m is_below end_key w → IsSettling w c c m }
+    ensures goes_on { (w : World) → IsWorld w → (old start mid new : Core) (m : Key) → IsSettling w old start m → IsPass w m w.regions start mid → TakesTo w mid new → AreEmpty w new → IsSettling w old new m }
+    ensures falls { (w : World) → IsWorld w → (old start mid new : Core) (m : Key) (i : ℕ) → IsSettling w old start m → IsPass w m w.regions start mid → TakesTo w mid new
+        → i < w.regions → (start.part i).clock is_upto m → lag w new m < lag w start m }
+    ensures two_passes { (w : World) → IsWorld w → (old start first next second new : Core) (m : Key) → IsSettling w old start m → IsPass w m w.regions start first → TakesTo w first next → AreEmpty w next
+        → IsPass w m w.regions next second → TakesTo w second new → ArePast new m w.regions }
+    ensures settled { (w : World) (old new : Core) (m : Key) → IsSettling w old new m → ArePast new m w.regions → IsSettled w old new }
+{}
+
+/// Once the core is settled, the least clock may be committed. What that hands out is the history's events from the
+/// old horizon on and below the clock. It is at least one event, unless the clock is the end key; and the horizon
+/// moves, unless it was there already.
+pub fn a_settled_round_commits()
+    ensures may { (w : World) (old new : Core) (k : Key) → IsSettled w old new → IsLeastClock w new k → MayCommit w new k }
+    ensures handed { (w : World) → IsWorld w → (c : Core) (k : Key) → IsConsistent w c → MayCommit w c k → own_events_below w c k w.regions ≡ from c.horizon (below k w.history) }
+    ensures some { (w : World) → IsWorld w → (old new : Core) (k : Key) → IsSettled w old new → IsLeastClock w new k → (k ≡ end_key w) ⊎ (own_events_below w new k w.regions ≡ [] → ⊥) }
+    ensures moves { (w : World) (old new : Core) (k : Key) → IsSettled w old new → IsLeastClock w new k → new.horizon is_below end_key w → new.horizon is_below k }
 {}

@@ -15,7 +15,7 @@ use Rattle.border.specs.Messages.{replay, replay_one, op_key, IsPutOf, is_put_of
 use Rattle.warp_core.specs.Messages.{accepted_ops, AreSent, partition_of}
 use Rattle.warp_core.specs.World.{World, is_own}
 use Rattle.warp_core.specs.Parts.{Part, after_op, after_take}
-use Rattle.surf_kinds.proofs.Order.{le_refl}
+use Rattle.surf_kinds.proofs.Order.{le_refl, lt_to_le}
 
 early_late : (t : ℕ) → 1 ≤ t → t ≤ 10 ^ 15 → (nat_le 1 t && nat_le t 1000000000000000) ≡ true
 early_late t p q = grind (arith, nat_tests)
@@ -88,3 +88,16 @@ take_stack w floor i p j op a =
     there : (o : Option Op) → (a == j) ≡ false → (option_map_or (after_op p j) o p).stack a ≡ p.stack a
     there None h = refl
     there (Some x) h = ap (λ t. cond t (replay_one (p.stack a) x) (p.stack a)) h
+
+-- a message is taken for one with its key or a later one
+pub accepted_upto : (w : World) (j i : ℕ) (floor : Key) (op a : Op) → accepted_op (partition_of w) j i floor op ≡ Some a → op_key op is_upto op_key a
+accepted_upto w j i floor (Put e) a h =
+    elim (cases_Bool (is_lawful (partition_of w) j i floor e)) [
+      | inl p ↦ subst (λ o. key_of e is_upto op_key o) (same_Some (Put e) a (sym (ap (λ b. cond b (Some (Put e)) None) p) ∙ h)) (le_refl (key_of e))
+      | inr p ↦ absurd (none-some a (sym (ap (λ b. cond b (Some (Put e)) None) p) ∙ h))
+    ]
+accepted_upto w j i floor (Back k) a h =
+    elim (cases_Bool (is_before k floor)) [
+      | inl p ↦ subst (λ o. k is_upto op_key o) (same_Some (Back floor) a (sym (ap (λ b. cond b (Some (Back floor)) (Some (Back k))) p) ∙ h)) (lt_to_le k floor p)
+      | inr p ↦ subst (λ o. k is_upto op_key o) (same_Some (Back k) a (sym (ap (λ b. cond b (Some (Back floor)) (Some (Back k))) p) ∙ h)) (le_refl k)
+    ]

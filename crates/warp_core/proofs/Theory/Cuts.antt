@@ -12,7 +12,7 @@ use Rattle.border.proofs.LawLemmas.{rise_replay, below_replay}
 use Rattle.warp_core.specs.Steps.{with_event, with_events}
 use Rattle.surf_kinds.proofs.Order.{lt_to_le, le_refl, key_cases, same_is, not_same_below}
 use Rattle.surf_kinds.proofs.Rising.{strictly, rises}
-use Rattle.surf_kinds.proofs.Tables.{at_keep_yes, at_keep_no, AllKeys_weaker, AllKeys_kept, IsRising_keep, IsRising_append, at_append_left, at_append_right, keep_swap, keep_all, keep_none}
+use Rattle.surf_kinds.proofs.Tables.{at_keep_yes, at_keep_no, AllKeys_weaker, AllKeys_kept, IsRising_keep, IsRising_append, at_append_left, at_append_right, same_tables, keep_swap, keep_all, keep_none}
 -- the lower of two bounds counts
 pub use Rattle.surf_kinds.proofs.Tables.{below_below}
 
@@ -45,6 +45,16 @@ AllKeys_below k es = AllKeys_kept (λ j. is_before j k) es
 
 pub AllKeys_from : (k : Key) (es : List Event) → AllKeys (λ j. k is_upto j) (from k es)
 AllKeys_from k es = AllKeys_weaker (λ j. not (is_before j k) ≡ true) (λ j. k is_upto j) (λ j. not-true (is_before j k)) (from k es) (AllKeys_kept (λ j. not (is_before j k)) es)
+
+-- a list that rises is what lies below a key and then what lies from it on
+pub halves : (k : Key) (es : List Event) → IsRising es → below k es ++ from k es ≡ es
+halves k es r =
+    same_tables (below k es ++ from k es) es
+    (IsRising_append k (below k es) (from k es) (IsRising_keep (λ j. is_before j k) es r) (IsRising_keep (λ j. not (is_before j k)) es r) (AllKeys_below k es) (AllKeys_from k es)) r
+    (λ j. elim (key_cases j k) [
+      | inl h ↦ at_append_left j (below k es) (from k es) (at_from_none k j es h) ∙ at_below k j es h
+      | inr h ↦ at_append_right j (below k es) (from k es) (at_below_none k j es h) ∙ at_from k j es h
+    ])
 
 -- from a key on, below a later one
 pub below_from : (a b : Key) (es : List Event) → below a (from b es) ≡ from b (below a es)
