@@ -16,3 +16,4 @@ pub mod Committed
 pub mod First
 pub mod Trying
 pub mod Starts
+pub mod Plain

@@ -1,16 +1,19 @@
-ghost use Rattle.std.specs.Prelude.{◌≡◌, ◌<◌, ◌≤◌, length, All, IsTrue};
+ghost use Rattle.std.specs.Prelude.{◌≡◌, ◌<◌, ◌≤◌, ◌*◌, length, All, IsTrue};
+ghost use Rattle.lattice.specs.Places.{IsPlace};
+ghost use Rattle.lattice.specs.Surface.{IsChannelOf};
+ghost use Rattle.plan.specs.Bounds.{IsWithinBounds};
 ghost use Rattle.plan.specs.Products.{LeavesWithin};
 ghost use Rattle.warp_core.specs.Configs.{NamesRegions};
 
 use super::*;
 use border::Op;
 use lattice::{Kind, Lattice};
-use plan::Plan;
+use plan::{Plan, rescan};
 use regions::Cut;
 use std::alloc::Global;
 use std::marker::Model;
 use std::test::Fail;
-use surf_kinds::{Event, Key, NoMemory, Place, Rate, Rule, SpeciesId};
+use surf_kinds::{Event, Key, NoMemory, Place, Rate, Rule, SiteState, SpeciesId, rule_of_channel};
 use surface_state::Surface;
 
 const A: SpeciesId = SpeciesId(0);
@@ -28,6 +31,14 @@ const E: SpeciesId = SpeciesId(4);
 fn instant() -> Rate {
     Rate {
         p: 1_000_000_000,
+        q: 1,
+    }
+}
+
+#[tactic(auto, using(surf_kinds::proofs::Fractions::whole_reduced))]
+fn slow() -> Rate {
+    Rate {
+        p: 200_000_000,
         q: 1,
     }
 }
@@ -149,6 +160,160 @@ impl Walk {
     }
 }
 
+/// Numbers that look random.
+#[derive(Drop)]
+struct Dice {
+    seed: u64,
+}
+
+impl Dice {
+    ghost use Rattle.std.specs.Prelude.{◌<◌, ◌≤◌};
+
+    /// A number below n.
+    fn below(&mut self, n: u32) -> u32
+        requires { 1 ≤ n }
+        ensures { result < n }
+    {
+        self.seed = self.seed % 2_147_483_648 * 1_103_515_245 + 12_345;
+        (self.seed / 65_536 % u64::from(n)) as u32
+    }
+}
+
+/// Whether the states are ones that events can reach.
+fn are_within(sites: &[SiteState]) -> bool
+    ensures { IsTrue result → All IsWithinBounds sites.now }
+{
+    sites.iter().all(|s| s.version < 9_007_199_254_740_992 && s.last <= 1_000_000_000_000_000)
+}
+
+/// Rewrites the sites of an event on a surface within bounds.
+fn fire_within(plan: &Plan, sites: &mut [SiteState], event: Event)
+    requires place { IsPlace plan.now.lattice event.place.0 }
+    requires channel { IsChannelOf plan.now.rules event.channel }
+    requires surface { length sites.old ≡ plan.now.lattice.rows * plan.now.lattice.cols }
+    requires within { All IsWithinBounds sites.old }
+{
+    rescan::fire(plan, sites, event);
+}
+
+/// The events of a surface up to a tick, each found by rescanning the surface. None where they are more than 4,096.
+fn rescanned(
+    alloc: Global,
+    lattice: Lattice,
+    rules: &[Rule],
+    cells: &[SpeciesId],
+    until: u64,
+) -> Result<Option<Vec<Event>>, NoMemory>
+    requires { length rules.now ≤ 4096 }
+{
+    let plan = Plan::new(alloc, rules, lattice, 0)?;
+    let mut sites = Vec::new(alloc);
+    for species in cells {
+        sites.push(SiteState {
+            species: *species,
+            version: 0,
+            last: 0,
+        })?;
+    }
+    let mut events = Vec::new(alloc);
+    for _ in 0..4096 {
+        if !are_within(sites.as_slice()) || sites.len() != lattice.site_count() as usize {
+            return Ok(None);
+        }
+        let Some(event) = rescan::due(&plan, until, sites.as_slice()) else {
+            return Ok(Some(events));
+        };
+        if lattice.sites_of(event.place).is_none()
+            || usize::from(rule_of_channel(event.channel)) >= rules.len()
+        {
+            return Ok(None);
+        }
+        fire_within(&plan, &mut sites, event);
+        events.push(event)?;
+    }
+    Ok(None)
+}
+
+/// Whether these are the events of a history below a key.
+fn are_below(history: &[Event], key: Key, events: &[Event]) -> bool {
+    let mut i = 0;
+    for event in history {
+        if event.key().is_before(key) {
+            if i >= events.len() || events[i] != *event {
+                return false;
+            }
+            i += 1;
+        }
+    }
+    i == events.len()
+}
+
+/// Cells of five species.
+fn drawn(alloc: Global, count: u32, dice: &mut Dice) -> Result<Vec<SpeciesId>, NoMemory> {
+    let mut cells = Vec::new(alloc);
+    for _ in 0..count {
+        cells.push(SpeciesId(dice.below(5) as u16))?;
+    }
+    Ok(cells)
+}
+
+/// Whether these are as many cells as the lattice has sites, of five species.
+fn are_cells(lattice: &Lattice, cells: &[SpeciesId]) -> bool
+    ensures count { IsTrue result → length cells.now ≡ lattice.now.rows * lattice.now.cols }
+    ensures below { IsTrue result → All (λ s. s.0 < 5) cells.now }
+{
+    cells.len() == lattice.site_count() as usize && cells.iter().all(|s| s.0 < 5)
+}
+
+/// Makes random steps, and answers how many of them undid events of which the sender had been told. None where the
+/// committed events were at some time other than the rescanned ones below the horizon.
+fn wander(
+    alloc: Global,
+    lattice: Lattice,
+    rules: &[Rule],
+    workers: u32,
+    dice: &mut Dice,
+) -> Result<Option<u64>, NoMemory>
+    requires rules { length rules.now ≤ 4096 }
+    requires species { All (LeavesWithin 5) rules.now }
+    requires at_least { 1 ≤ workers }
+    requires at_most { workers ≤ 64 }
+{
+    let cells = drawn(alloc, lattice.site_count(), dice)?;
+    if !are_cells(&lattice, cells.as_slice()) {
+        return Ok(None);
+    }
+    let mut walk = Walk::new(alloc, lattice, rules, cells.as_slice(), workers, 20)?;
+    let Some(history) = rescanned(alloc, lattice, rules, cells.as_slice(), 20)? else {
+        return Ok(None);
+    };
+    let mut undone: u64 = 0;
+    for _ in 0..400 {
+        let (from, to) = (dice.below(workers), dice.below(workers));
+        let step = match dice.below(4) {
+            0 => Step::Fire { region: from },
+            1 => Step::Pass { region: from },
+            2 => Step::Take { from, to },
+            _ => Step::Commit {
+                key: walk.clock(from).unwrap_or(key(0, 0)),
+            },
+        };
+        let waiting = walk.waiting(to, from);
+        walk.makes(step)?;
+        if matches!(step, Step::Take { .. }) && waiting < walk.waiting(to, from) {
+            undone = undone.saturating_add(1);
+        }
+        if !are_below(
+            history.as_slice(),
+            walk.config.horizon(),
+            walk.config.committed(),
+        ) {
+            return Ok(None);
+        }
+    }
+    Ok(Some(undone))
+}
+
 #[test]
 fn a_guess_is_undone_and_the_rest_committed(rt: HostRuntime) -> Result<(), Fail> {
     let rules = [
@@ -190,5 +355,41 @@ fn a_guess_is_undone_and_the_rest_committed(rt: HostRuntime) -> Result<(), Fail>
     assert!(rt; walk.makes(Step::Commit { key: key(6, 0) })?);
     assert_eq!(rt; walk.config.committed(), [event(1, 2, 0)].as_slice());
     assert_eq!(rt; walk.config.horizon(), key(6, 0));
+    Ok(())
+}
+
+#[test]
+fn random_steps_commit_what_rescanning_finds(rt: HostRuntime) -> Result<(), Fail> {
+    let rules = [
+        Rule::Two {
+            rate: instant(),
+            a: A,
+            b: B,
+            c: C,
+            d: D,
+        },
+        Rule::One {
+            rate: instant(),
+            a: B,
+            c: E,
+        },
+        Rule::Two {
+            rate: slow(),
+            a: C,
+            b: E,
+            c: A,
+            d: B,
+        },
+    ];
+    let mut dice = Dice { seed: 7 };
+    let mut undone: u64 = 0;
+    for i in 0..32 {
+        let kind = if i % 2 == 0 { Kind::Square } else { Kind::Hex };
+        let lattice = Lattice::new(kind, 8, 4, i / 2 % 2 == 0)?;
+        let was = wander(rt.alloc(), lattice, &rules, i / 4 + 1, &mut dice)?;
+        assert!(rt; was.is_some());
+        undone = undone.saturating_add(was.unwrap_or(0));
+    }
+    assert!(rt; undone > 0);
     Ok(())
 }
