@@ -1,0 +1,6 @@
+mod Prefixes
+mod Adding
+mod Steps
+mod States
+mod Writing
+pub mod LawLemmas
