@@ -1,0 +1,5 @@
+mod Firing
+mod Outcoming
+mod Tabling
+mod Spreading
+mod Wordings

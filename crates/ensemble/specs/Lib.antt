@@ -1,0 +1,4 @@
+pub mod Outcomes
+pub mod Running
+pub mod Texts
+pub mod Wording
