@@ -64,12 +64,12 @@ writing_due s w v events i d a b t h = (subst (AreNext s.network s.until v.surfa
 
 pub writing_step : (s : Scene) (w v u : Writer) (events : List Event) (i : ℕ) (d : Event) (a b c : Page) → WritingList s w v events i a b → i < length events → IsReady s u
     → Progress s (reached_of v) (reached_of u) b c → u.surface.sites ≡ after s.network.lattice s.network.rules v.surface.sites (get_or events i d) → WritingList s w u events (i + 1) a c
-writing_step s w v u events i d a b c t h ready told is =
+writing_step s w v u events i d a b c t h ready more is =
     let e = get_or events i d in
     record {
       ready = ready;
       next = subst (λ (x : List SiteState). AreNext s.network s.until x (drop (i + 1) events)) (sym is) (subst (AreNext s.network s.until v.surface.sites) (dropped events i d h) t.next).1;
-      progress = progress_more s (reached_of w) (reached_of v) (reached_of u) a b c t.progress told;
+      progress = progress_more s (reached_of w) (reached_of v) (reached_of u) a b c t.progress more;
       sites = ap (λ (x : List SiteState). after_all s.network.lattice s.network.rules x (drop (i + 1) events)) is
           ∙ (sym (ap (after_all s.network.lattice s.network.rules v.surface.sites) (dropped events i d h)) ∙ t.sites);
     }

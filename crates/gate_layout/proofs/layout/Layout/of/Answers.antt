@@ -1,6 +1,3 @@
-use Rattle.std.proofs.Common.{subst, sym}
-use Rattle.gate_layout.specs.Table.{IsWellFormed}
-use Rattle.gate_layout.specs.Layout.{layout}
 use Rattle.gate_layout.proofs.Whole.{layout_is}
 use Rattle.gate_layout.proofs.layout.Layout.of.Goals as goal
 
