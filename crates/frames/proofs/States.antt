@@ -7,7 +7,7 @@ use Rattle.std.proofs.Math.ListN.{length-set}
 use Rattle.surf_kinds.specs.declared.site.SpeciesId.{SpeciesId}
 use Rattle.frames.specs.declared.sample.Change.{Change}
 use Rattle.frames.specs.declared.sample.Sample.{Sample}
-use Rattle.frames.specs.States.{lowered, raised, lowered_second, raised_second, without_old, changed, next, after, opening, total, MayFollow, HasSecond}
+use Rattle.frames.specs.States.{lowered, raised, lowered_second, raised_second, without_old, next, after, opening, total, MayFollow, HasSecond}
 use Rattle.frames.specs.Capped.{raised_capped, raised_capped_second, applied}
 
 pub after-snoc : (start : List ℕ) (cs : List Change) (c : Change) → after start (cs ++ c ∷ []) ≡ next (after start cs) c

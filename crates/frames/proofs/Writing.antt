@@ -3,8 +3,6 @@ use Rattle.std.proofs.Common.{◌≡◌, ℕ, ◌-◌, ◌<◌, ◌^◌, List, [
 use Rattle.std.proofs.lemmas.List.Sums.{fold-append}
 use Rattle.logbook.specs.Pages.{Book}
 use Rattle.left_right.specs.Register.{TurnsAt}
-use mathlib.Core.List.{IsPrefix}
-use Rattle.frames.specs.declared.sample.Change.{Change}
 use Rattle.frames.specs.declared.sample.Sample.{Sample}
 use Rattle.frames.specs.declared.pair.Frame.{Frame}
 use Rattle.frames.specs.declared.pair.Step.{Step}

@@ -121,7 +121,7 @@ pub struct ChangeLog {
     pub added: Prefix,
     end: End,
     standing: Standing,
-    ghost one: { end.seen.book ≡ added.book },
+    ghost same_book: { end.seen.book ≡ added.book },
     ghost stands: { end.seen.log ≡ list_at standing added.log end.seen.log },
 }
 

@@ -23,5 +23,5 @@ pub fn changes_keep_the_sites()
 pub fn beginnings_are_compared()
     ensures shorter { (xs ys all : List ChangeValue) → IsPrefix xs all → IsPrefix ys all → length xs ≤ length ys → IsPrefix xs ys }
     ensures whole { (xs all : List ChangeValue) → IsPrefix xs all → length all ≤ length xs → xs ≡ all }
-    ensures again { (xs ys all : List ChangeValue) → IsPrefix xs ys → IsPrefix ys all → IsPrefix xs all }
+    ensures transitive { (xs ys all : List ChangeValue) → IsPrefix xs ys → IsPrefix ys all → IsPrefix xs all }
 {}

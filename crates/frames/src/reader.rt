@@ -120,6 +120,7 @@ impl FrameReader {
         ensures writer { self.new.writer ≡ self.old.writer }
         ensures grows { IsPrefix self.old.longest self.new.longest }
         ensures state { into.new ≡ after self.new.writer.start self.new.longest }
+        ensures kinds { length into.new.counts ≡ length into.old.counts }
     {
         self.look();
         into.overwrite(&self.last);

@@ -7,5 +7,5 @@ returns-clause-shorter c = prefix_shorter
 pub returns-clause-whole : goal.returns-clause-whole
 returns-clause-whole c = prefix_whole
 
-pub returns-clause-again : goal.returns-clause-again
-returns-clause-again c = prefix_trans
+pub returns-clause-transitive : goal.returns-clause-transitive
+returns-clause-transitive c = prefix_trans

@@ -7,3 +7,9 @@ overwrite-requires c =
     let last = length_of c.self.inside.reader.place.me.0.client.start c.self.inside.seen.log c.self.inside.last c.self.invariant.last_is in
     let start = ap (λ r. r.writer.start) c.self.view_is ∙ ap (λ w. w.start) c.look.ensures.same in
     c.requires ∙ (ap length (sym start) ∙ sym last)
+
+pub returns-clause-kinds : goal.returns-clause-kinds
+returns-clause-kinds c =
+    let last = length_of c.self.inside.reader.place.me.0.client.start c.self.inside.seen.log c.self.inside.last c.self.invariant.last_is in
+    let start = ap (λ r. r.writer.start) c.self.view_is ∙ ap (λ w. w.start) c.look.ensures.same in
+    ap (λ s. length s.counts) c.overwrite.ensures ∙ (last ∙ (ap length start ∙ sym c.requires))

@@ -1,4 +1,4 @@
-use Rattle.std.proofs.Common.{◌≡◌, length, inl, inr, sym, ap, ◌∙◌, arith}
+use Rattle.std.proofs.Common.{◌≡◌, length, sym, ap, ◌∙◌, arith}
 use Rattle.frames.specs.States.{after}
 use Rattle.frames.proofs.States.{events_of}
 use Rattle.frames.proofs.reader.FrameReader.learn.Goals as goal

@@ -1,5 +1,4 @@
 use Rattle.std.proofs.Common.{◌≡◌, ◌<◌, length, sym, ap, ◌∙◌, arith}
-use Rattle.frames.specs.declared.sample.Sample.{Sample}
 use Rattle.frames.specs.declared.pair.Frame.{Frame}
 use Rattle.frames.specs.States.{after}
 use Rattle.frames.specs.Places.{known_as, IsFrame}
