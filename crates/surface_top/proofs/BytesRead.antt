@@ -96,12 +96,26 @@ ends_wrong words index unread old none first =
     (ap (λ o. option_map_or (λ c. answer_to words c (given unread [])) o (WrongWord (unwrap_or (first_wrong Surface words) 0))) none ∙ ap (λ o. WrongWord (unwrap_or o 0)) first)
     refl (appends_none old)
 
--- each command of the program reads
-pub each_reads : (words : Words) → reads words ≡ true
-each_reads said.Check = refl
-each_reads said.Print = refl
-each_reads (said.Run workers seed until samples limit) = refl
-each_reads (said.Value inputs) = refl
+-- a command that reads nothing has one answer, whatever the bytes are
+same_answer : (words : List (List ℕ)) (command : Words) (xs ys : List ℕ) → reads command ≡ false → answer_within command words xs ≡ answer_to words command ys
+same_answer words said.Check xs ys h = absurd (cc)
+same_answer words said.Print xs ys h = absurd (cc)
+same_answer words (said.Run workers seed until samples limit) xs ys h = absurd (cc)
+same_answer words (said.Compile inputs) xs ys h = absurd (cc)
+same_answer words (said.Value inputs) xs ys h = absurd (cc)
+same_answer words (said.Gen number) xs ys h = refl
+same_answer words (said.Stress workers number) xs ys h = refl
+
+pub ends_alone : (words : List (List ℕ)) (command : Words) (text : List ℕ) (e : Ending) (unread old new : Option (List ℕ)) → reads command ≡ false
+    → IsEndingOf e (answer_within command words text) → OutGains (status_of e) (answer_within command words text) old new → EndsAs (answer_to words command) e unread old new
+ends_alone words command text e unread old new h is gains =
+    let same = same_answer words command text (given unread []) h in
+    record {
+      bytes = given unread [];
+      agrees = given_agrees unread [];
+      is_of = subst (IsEndingOf e) same is;
+      gains = subst (λ x. OutGains (status_of e) x old new) same gains;
+    }
 
 -- words that aren't accepted say nothing
 pub unread_words : (words : List (List ℕ)) → (is_accepted Surface words ≡ true → ⊥) → reading Surface words ≡ None

@@ -104,7 +104,7 @@ abbrev at_ticks : List SiteState → ℕ → List ℕ → Reached
 at_ticks sites events ticks = record { sites = sites; events = events; ticks = ticks }
 
 -- the next event below the limit
-step_below : (s : Scene) (r : Reached) (e : Event) (es : List Event) → r.events < s.limit → text_from (e ∷ es) s r ≡ shown s r (ticks_before e.time r.ticks) ++ (event_text s.network.lattice.cols e ++ text_from es s (reached s r e))
+pub step_below : (s : Scene) (r : Reached) (e : Event) (es : List Event) → r.events < s.limit → text_from (e ∷ es) s r ≡ shown s r (ticks_before e.time r.ticks) ++ (event_text s.network.lattice.cols e ++ text_from es s (reached s r e))
 step_below s r e es h =
     text_step s r e es ∙ ap (λ b. shown s r (ticks_before e.time r.ticks) ++ (if b then limit_text s.limit else event_text s.network.lattice.cols e ++ text_from es s (reached s r e))) (below_limit r.events s.limit h)
 

@@ -13,3 +13,7 @@ mod Progressing
 mod Written
 mod CutTexts
 mod SpeciesKept
+mod TextEnds
+mod CircuitEnds
+mod Stressing
+mod Compiling

@@ -29,6 +29,7 @@ notes_are F ending.TooLong a old new h g = g
 notes_are F (ending.BadManifest fault) a old new h g = noted_or F (is_over fault.kind) a old new g
 notes_are F (ending.BadCircuit fault) a old new h g = noted_or F (are_too_many fault.kind) a old new g
 notes_are F (ending.WrongInputs expected given) a old new h g = g
+notes_are F (ending.TooManySites sites) a old new h g = g
 notes_are F (ending.EventLimit limit) a old new h g = g
 notes_are F ending.ReadFault a old new h g = g
 notes_are F ending.WriteFault a old new h g = (0, g)

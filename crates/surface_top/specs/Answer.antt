@@ -1,5 +1,5 @@
 -- What the program answers to words and bytes.
-use Rattle.std.specs.Prelude.{ℕ, List, [], length, Bool, false, ◌&&◌, Option, Some, None, Result, Ok, Err, unwrap_or, nat_lt, ◌==◌, if◌then◌else◌, slice_index_or}
+use Rattle.std.specs.Prelude.{ℕ, ◌^◌, List, [], length, Bool, false, ◌&&◌, Option, Some, None, Result, Ok, Err, unwrap_or, nat_lt, ◌==◌, if◌then◌else◌, slice_index_or}
 use Rattle.std.specs.Option.{option_map_or}
 use Rattle.lattice.specs.Surface.{first_surface}
 use Rattle.manifest_read.specs.declared.manifest.Manifest.{Manifest}
@@ -9,13 +9,17 @@ use Rattle.manifest_write.specs.Canon.{canonical_text}
 use Rattle.circuit_text.specs.declared.fault.CircuitFault.{CircuitFault}
 use Rattle.circuit_text.specs.Circuits.{NetList, circuit_in}
 use Rattle.circuit_text.specs.Values.{input_count}
+use Rattle.gate_layout.specs.Layout.{site_count, layout}
+use Rattle.crn_compile.specs.Compiled.{compiled_manifest}
+use Rattle.workload.specs.Generated.{generated_manifest}
 use Rattle.surface_words.specs.declared.commands.Program.{Program}
 use Rattle.surface_words.specs.declared.words.Words.{Words}
-use Rattle.surface_words.specs.declared.words.Words.TheVariants.{Check, Print, Run, Value}
+use Rattle.surface_words.specs.declared.words.Words.TheVariants.{Check, Print, Run, Compile, Value, Gen, Stress}
 use Rattle.surface_words.specs.FirstWrong.{first_wrong}
 use Rattle.surface_words.specs.Reading.{reading, reads}
 use Rattle.surface_top.specs.Checks.{check_text}
 use Rattle.surface_top.specs.RunText.{Scene, events_of, run_text}
+use Rattle.surface_top.specs.StressText.{stress_text}
 use Rattle.surface_top.specs.ValueText.{bits_of, value_text}
 
 pub data Answer : Type 0 where
@@ -24,6 +28,7 @@ pub data Answer : Type 0 where
   BadManifest : (fault : ManifestFault) → Answer
   BadCircuit : (fault : CircuitFault) → Answer
   WrongInputs : (expected given : ℕ) → Answer
+  TooManySites : (sites : ℕ) → Answer
   EventLimit : (limit : ℕ) (text : List ℕ) → Answer
   Text : (text : List ℕ) → Answer
 
@@ -54,9 +59,30 @@ abbrev pub value_answer : List ℕ → NetList → Answer
 value_answer word c =
     if length word == input_count c.nets then Text (value_text c (bits_of word)) else WrongInputs (input_count c.nets) (length word)
 
+-- the canonical text of the manifest of a circuit, for a bit of each input; its layout has at most 2^20 sites
+abbrev pub compile_answer : List ℕ → NetList → Answer
+compile_answer word c =
+    if length word == input_count c.nets then
+    (if nat_lt (2 ^ 20) (site_count c.nets) then TooManySites (site_count c.nets) else Text (canonical_text (compiled_manifest c (bits_of word) (layout c))))
+    else WrongInputs (input_count c.nets) (length word)
+
 abbrev pub by_circuit : (NetList → Answer) → Result NetList CircuitFault → Answer
 by_circuit f (Ok c) = f c
 by_circuit f (Err fault) = BadCircuit fault
+
+-- the canonical text of the manifest of a number
+abbrev pub gen_answer : ℕ → Answer
+gen_answer number = Text (canonical_text (generated_manifest number))
+
+-- a run with up to 10,000,000 events, of which no surface is shown
+abbrev pub stress_scene : Manifest → Scene
+stress_scene m = scene_of None None 0 10000000 m
+
+-- what is said of the run of a number's manifest, and nothing where it has more events
+abbrev pub stress_answer : ℕ → Manifest → Answer
+stress_answer number m =
+    if nat_lt 10000000 (length (events_of (stress_scene m) (first_surface m.cells))) then EventLimit 10000000 []
+    else Text (stress_text number (stress_scene m) (first_surface m.cells))
 
 -- the word with the inputs; no inputs where there is none
 abbrev pub inputs_in : Option ℕ → List (List ℕ) → List ℕ
@@ -67,7 +93,10 @@ abbrev pub answer_within : Words → List (List ℕ) → List ℕ → Answer
 answer_within Check words bytes = by_manifest (λ m. Text (check_text m)) (manifest_of bytes)
 answer_within Print words bytes = by_manifest (λ m. Text (canonical_text m)) (manifest_of bytes)
 answer_within (Run workers seed until samples limit) words bytes = by_manifest (λ m. run_answer (scene_of seed until samples limit m) m) (manifest_of bytes)
+answer_within (Compile inputs) words bytes = by_circuit (compile_answer (inputs_in inputs words)) (circuit_in bytes)
 answer_within (Value inputs) words bytes = by_circuit (value_answer (inputs_in inputs words)) (circuit_in bytes)
+answer_within (Gen number) words bytes = gen_answer number
+answer_within (Stress workers number) words bytes = stress_answer number (generated_manifest number)
 
 -- a command that reads takes at most 67,108,864 bytes
 abbrev pub is_too_long : Words → List ℕ → Bool
@@ -95,3 +124,4 @@ text_of TooLong = []
 text_of (BadManifest fault) = []
 text_of (BadCircuit fault) = []
 text_of (WrongInputs expected given) = []
+text_of (TooManySites sites) = []

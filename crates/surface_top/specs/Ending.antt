@@ -11,12 +11,14 @@ use Rattle.circuit_text.specs.declared.fault.CircuitFault.{CircuitFault}
 use Rattle.circuit_text.specs.Circuits.{NetList}
 use Rattle.surface_top.specs.declared.call.ManifestJob.{ManifestJob}
 use Rattle.surface_top.specs.declared.call.ManifestJob.TheVariants as job
+use Rattle.surface_top.specs.declared.call.CircuitJob.{CircuitJob}
+use Rattle.surface_top.specs.declared.call.CircuitJob.TheVariants as task
 use Rattle.surface_top.specs.declared.run.RunOptions.{RunOptions}
 use Rattle.surface_top.specs.declared.pages.Stop.{Stop}
 use Rattle.surface_top.specs.declared.pages.Stop.TheVariants as stop
 use Rattle.surface_top.specs.declared.ending.Ending.{Ending}
 use Rattle.surface_top.specs.declared.ending.Ending.TheVariants as ending
-use Rattle.surface_top.specs.Answer.{Answer, WrongWord, TooLong, BadManifest, BadCircuit, WrongInputs, EventLimit, Text, run_answer, scene_of}
+use Rattle.surface_top.specs.Answer.{Answer, WrongWord, TooLong, BadManifest, BadCircuit, WrongInputs, TooManySites, EventLimit, Text, run_answer, scene_of, compile_answer, value_answer}
 use Rattle.surface_top.specs.Checks.{check_text}
 use Rattle.surface_top.specs.Outcome.{own_status, HasText, OutGains}
 
@@ -28,6 +30,7 @@ answer_by ending.TooLong = TooLong
 answer_by (ending.BadManifest fault) = BadManifest fault
 answer_by (ending.BadCircuit fault) = BadCircuit fault
 answer_by (ending.WrongInputs expected given) = WrongInputs expected given
+answer_by (ending.TooManySites sites) = TooManySites sites
 answer_by (ending.EventLimit limit) = EventLimit limit []
 answer_by ending.ReadFault = Text []
 answer_by ending.WriteFault = Text []
@@ -47,6 +50,7 @@ IsEndingOf ending.TooLong a = a ≡ TooLong
 IsEndingOf (ending.BadManifest fault) a = a ≡ BadManifest fault
 IsEndingOf (ending.BadCircuit fault) a = a ≡ BadCircuit fault
 IsEndingOf (ending.WrongInputs expected given) a = a ≡ WrongInputs expected given
+IsEndingOf (ending.TooManySites sites) a = a ≡ TooManySites sites
 IsEndingOf (ending.EventLimit limit) a = (text : List ℕ) × (a ≡ EventLimit limit text)
 IsEndingOf ending.ReadFault a = ⊤
 IsEndingOf ending.WriteFault a = HasText a
@@ -77,6 +81,11 @@ abbrev pub manifest_answer : ManifestJob → Manifest → Answer
 manifest_answer job.Check m = Text (check_text m)
 manifest_answer job.Print m = Text (canonical_text m)
 manifest_answer (job.Run options) m = run_answer (scene_of options.seed options.until options.samples options.limit m) m
+
+-- what is done with a circuit and a word with its inputs, as an answer
+abbrev pub circuit_answer : CircuitJob → List ℕ → NetList → Answer
+circuit_answer task.Compile word c = compile_answer word c
+circuit_answer task.Value word c = value_answer word c
 
 -- the bounds of the options of a run
 pub record HasBounds (options : RunOptions) : Type 0 where

@@ -1,6 +1,7 @@
 pub mod RunText
 pub mod Checks
 pub mod ValueText
+pub mod StressText
 pub mod Answer
 pub mod Outcome
 pub mod Ending
@@ -8,4 +9,5 @@ pub mod Pages
 pub mod Ticks
 pub mod Writing
 pub mod Stops
+pub mod CircuitRuns
 pub mod Cuts

@@ -13,7 +13,7 @@ use Rattle.circuit_text.specs.Faults.{kind_name}
 use Rattle.circuit_text.specs.declared.fault.CircuitFault.{CircuitFault}
 use Rattle.circuit_text.specs.declared.fault.CircuitKind.{CircuitKind}
 use Rattle.circuit_text.specs.declared.fault.CircuitKind.TheVariants as circuit
-use Rattle.surface_top.specs.Answer.{Answer, WrongWord, TooLong, BadManifest, BadCircuit, WrongInputs, EventLimit, Text, text_of}
+use Rattle.surface_top.specs.Answer.{Answer, WrongWord, TooLong, BadManifest, BadCircuit, WrongInputs, TooManySites, EventLimit, Text, text_of}
 
 -- a count above its limit has the status of a limit, every other fault that of a faulty text
 
@@ -43,6 +43,7 @@ own_status TooLong = status.Limit
 own_status (BadManifest fault) = manifest_status fault.kind
 own_status (BadCircuit fault) = circuit_status fault.kind
 own_status (WrongInputs expected given) = status.Faulty
+own_status (TooManySites sites) = status.Limit
 own_status (EventLimit limit text) = status.Limit
 own_status (Text text) = status.Done
 
@@ -78,6 +79,7 @@ answer_note TooLong = codes "limit bytes 67108864" ++ 10 ∷ []
 answer_note (BadManifest fault) = manifest_note fault
 answer_note (BadCircuit fault) = circuit_note fault
 answer_note (WrongInputs expected given) = inputs_note expected given
+answer_note (TooManySites sites) = codes "limit sites " ++ decimal sites ++ 10 ∷ []
 answer_note (EventLimit limit text) = codes "limit events " ++ decimal limit ++ 10 ∷ []
 answer_note (Text text) = []
 

@@ -1,7 +1,7 @@
-//! What `check`, `print` and `value` write.
+//! What `check`, `print`, `gen`, `compile` and `value` write.
 
-ghost use Rattle.std.specs.Prelude.{◌≡◌, ◌<◌, ◌++◌, ◌∷◌, [], length, IfOk, OnOk, string_bytes};
-ghost use Rattle.surface_top.specs.Answer.{Text, value_answer};
+ghost use Rattle.std.specs.Prelude.{◌≡◌, ◌<◌, ◌≤◌, ◌++◌, ◌∷◌, [], length, IfOk, OnOk, string_bytes};
+ghost use Rattle.surface_top.specs.Answer.{Text, gen_answer, compile_answer, value_answer};
 ghost use Rattle.surface_top.specs.Checks.{check_text, lattice_text, sizes_text};
 ghost use Rattle.surface_top.specs.Ending.{Answered};
 ghost use Rattle.circuit_text.specs.Values.{input_count};
@@ -12,13 +12,15 @@ ghost use Rattle.manifest_read.specs.Manifest.{IsValid};
 use crate::buffer::Buffer;
 use crate::ending::Ending;
 use circuit_text::Circuit;
+use crn_compile::CompileError;
 use manifest_read::{Manifest, bool_name, kind_name};
 use manifest_write::write_manifest;
 use std::alloc::{AllocError, Global};
+use surf_kinds::NoMemory;
 use surf_outside::{Failed, Sink, put_all};
 
 /// Writes a text to its end.
-fn put_text<O: Sink>(out: &mut O, text: &[u8]) -> Ending
+pub(crate) fn put_text<O: Sink>(out: &mut O, text: &[u8]) -> Ending
     ensures { Answered (Text text.now) result (O.written out.old) (O.written out.new) (O.faults out.old) (O.faults out.new) }
 {
     match put_all(out, text) {
@@ -81,6 +83,17 @@ pub(crate) fn print<O: Sink>(alloc: Global, manifest: &Manifest, out: &mut O) ->
     match write_manifest(manifest, &mut text) {
         Ok(()) => put_text(out, text.bytes()),
         Err(Failed) => Ending::Memory,
+    }
+}
+
+/// Writes the canonical text of the manifest of a number.
+pub(crate) fn generate<O: Sink>(alloc: Global, number: u64, out: &mut O) -> Ending
+    requires { number ≤ 1000000000 }
+    ensures { Answered (gen_answer number) result (O.written out.old) (O.written out.new) (O.faults out.old) (O.faults out.new) }
+{
+    match workload::make(alloc, number) {
+        Ok(manifest) => print(alloc, &manifest, out),
+        Err(NoMemory) => Ending::Memory,
     }
 }
 
@@ -149,5 +162,28 @@ pub(crate) fn value<O: Sink>(alloc: Global, circuit: &Circuit, word: &str, out: 
     match value_lines_of(alloc, circuit, word.as_bytes()) {
         Ok(text) => put_text(out, &text),
         Err(_) => Ending::Memory,
+    }
+}
+
+/// Writes the canonical text of the circuit's manifest, for a word with a bit of each input.
+pub(crate) fn compile<O: Sink>(alloc: Global, circuit: &Circuit, word: &str, out: &mut O) -> Ending
+    ensures { Answered (compile_answer word.now circuit.now) result (O.written out.old) (O.written out.new) (O.faults out.old) (O.faults out.new) }
+{
+    let expected = circuit.input_count();
+    let given = word.len() as u64;
+    if given != u64::from(expected) {
+        return Ending::WrongInputs { expected, given };
+    }
+    let Ok(bits) = bits(alloc, word.as_bytes()) else {
+        return Ending::Memory;
+    };
+    match crn_compile::compile(alloc, circuit, &bits) {
+        Ok(manifest) => print(alloc, &manifest, out),
+        Err(CompileError::WrongInputs { expected, given }) => Ending::WrongInputs {
+            expected,
+            given: u64::from(given),
+        },
+        Err(CompileError::TooManySites { sites }) => Ending::TooManySites(sites),
+        Err(CompileError::Memory) => Ending::Memory,
     }
 }

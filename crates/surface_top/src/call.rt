@@ -8,14 +8,15 @@ ghost use Rattle.manifest_read.specs.Sound.{IsSound};
 ghost use Rattle.circuit_text.specs.Circuits.{circuit_in};
 ghost use Rattle.surface_words.specs.declared.commands.Program.TheVariants.{Surface};
 ghost use Rattle.surface_words.specs.Reading.{reading, reads, IsInRange};
-ghost use Rattle.surface_top.specs.Answer.{answer_within, answer_to, specified_answer, reads_source, inputs_in, by_manifest, by_circuit, value_answer};
-ghost use Rattle.surface_top.specs.Ending.{manifest_answer, status_of, IsWordsAnswer, IsNoManifest, IsNoCircuit, IsAccepted, IsWithin, Answered, EndsAs};
+ghost use Rattle.surface_top.specs.Answer.{answer_within, answer_to, specified_answer, reads_source, inputs_in, by_manifest, by_circuit};
+ghost use Rattle.surface_top.specs.Ending.{manifest_answer, circuit_answer, status_of, IsWordsAnswer, IsNoManifest, IsNoCircuit, IsAccepted, IsWithin, Answered, EndsAs};
 ghost use Rattle.surface_top.specs.Outcome.{own_status, Gains, IsOutcome, source_view, sink_view, outside};
 
-use crate::answers::{check, print, value};
+use crate::answers::{check, compile, generate, print, value};
 use crate::ending::Ending;
 use crate::message::message_of;
 use crate::run::{RunOptions, run_manifest};
+use crate::stress::stress;
 use circuit_text::{Circuit, CircuitError, read_circuit};
 use manifest_read::{Manifest, ManifestError, read_manifest};
 use std::alloc::Global;
@@ -90,18 +91,36 @@ fn answer_manifest<O: Sink>(alloc: Global, text: &[u8], job: ManifestJob, out: &
     }
 }
 
-/// Reads a circuit and writes the values of its outputs.
-fn answer_circuit<O: Sink>(alloc: Global, text: &[u8], inputs: &str, out: &mut O) -> Ending
+/// What is done with a circuit.
+#[derive(Clone, Copy)]
+pub(crate) enum CircuitJob {
+    Compile,
+    Value,
+}
+
+/// Reads a circuit and writes what the job makes of it, with a bit of the word for each of its inputs.
+fn answer_circuit<O: Sink>(
+    alloc: Global,
+    text: &[u8],
+    job: CircuitJob,
+    inputs: &str,
+    out: &mut O,
+) -> Ending
     requires { length text.now ≤ 67108864 }
-    ensures { Answered (by_circuit (value_answer inputs.now) (circuit_in text.now)) result (O.written out.old) (O.written out.new) (O.faults out.old) (O.faults out.new) }
+    ensures { Answered (by_circuit (circuit_answer job inputs.now) (circuit_in text.now)) result (O.written out.old) (O.written out.new) (O.faults out.old) (O.faults out.new) }
 {
-    match circuit(alloc, text) {
-        Ok(circuit) => value(alloc, &circuit, inputs, out),
-        Err(ending) => ending,
+    let circuit = match circuit(alloc, text) {
+        Ok(circuit) => circuit,
+        Err(ending) => return ending,
+    };
+    match job {
+        CircuitJob::Compile => compile(alloc, &circuit, inputs, out),
+        CircuitJob::Value => value(alloc, &circuit, inputs, out),
     }
 }
 
-/// Does what the words say with the text that was read, and writes what that gives.
+/// Does what the words say with the text that was read, and writes what that gives. For a command that reads nothing the
+/// text has no effect.
 fn answer_text<O: Sink>(
     alloc: Global,
     words: &[String],
@@ -131,7 +150,14 @@ fn answer_text<O: Sink>(
             };
             answer_manifest(alloc, text, ManifestJob::Run(options), out)
         }
-        Words::Value { inputs: index } => answer_circuit(alloc, text, inputs(words, index), out),
+        Words::Compile { inputs: index } => {
+            answer_circuit(alloc, text, CircuitJob::Compile, inputs(words, index), out)
+        }
+        Words::Value { inputs: index } => {
+            answer_circuit(alloc, text, CircuitJob::Value, inputs(words, index), out)
+        }
+        Words::Gen { number } => generate(alloc, number, out),
+        Words::Stress { number, .. } => stress(alloc, number, out),
     }
 }
 
@@ -172,7 +198,8 @@ fn work<S: Source, O: Sink>(alloc: Global, words: &[String], source: &mut S, out
     ensures write { result ≡ Ending.WriteFault → Rose (O.faults out.old) (O.faults out.new) }
 {
     match Words::read(words, Program::Surface) {
-        Ok(command) => answer_source(alloc, words, command, source, out),
+        Ok(command) if command.reads() => answer_source(alloc, words, command, source, out),
+        Ok(command) => answer_text(alloc, words, command, &[], out),
         Err(index) => Ending::WrongWord(index as u64),
     }
 }
@@ -186,15 +213,16 @@ fn put_message<N: Sink>(notes: &mut N, line: &[u8])
 
 /// The program `surface`: does what the words say with the text that the source holds, and writes to `out`.
 ///
-/// The commands `check`, `print` and `run` read a manifest, and `value` reads a circuit. Where the words are wrong
-/// nothing is read. Else the source is read to its end, of at most 67,108,864 bytes, and then the first fault of the
-/// text decides.
+/// The commands `check`, `print` and `run` read a manifest, `compile` and `value` read a circuit, and `gen` and `stress`
+/// read nothing. Where the words are wrong nothing is read. Else the source is read to its end, of at most 67,108,864
+/// bytes, and then the first fault of the text decides; behind it, for `compile`, the size of the circuit's layout.
 ///
 /// - `Done`: the whole text of the answer was written to `out`.
 /// - `Words`: exactly where the words aren't accepted.
 /// - `Faulty`: the text has a fault, or the word with the inputs isn't as long as the circuit has inputs.
-/// - `Limit`: the source holds too many bytes, a count of the text is above its limit, or a run has more events than
-///   its limit; then the text of the events up to the limit was written.
+/// - `Limit`: the source holds too many bytes, a count of the text is above its limit, the layout of a circuit has too
+///   many sites, or a run has more events than its limit; then `run` has written the text of the events up to the
+///   limit, and `stress` nothing.
 /// - `ReadFault` and `WriteFault`: the source or `out` had a fault. With `WriteFault` a prefix of the text was written.
 /// - `Memory`: want of memory, which may come in place of every other status. A prefix of the text was written.
 ///

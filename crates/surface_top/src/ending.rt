@@ -17,6 +17,7 @@ pub(crate) enum Ending {
     BadManifest(ManifestFault),
     BadCircuit(CircuitFault),
     WrongInputs { expected: u32, given: u64 },
+    TooManySites(u64),
     EventLimit(u64),
     ReadFault,
     WriteFault,
@@ -50,7 +51,7 @@ impl Ending {
         match self {
             Ending::Done => Status::Done,
             Ending::WrongWord(_) => Status::Words,
-            Ending::TooLong | Ending::EventLimit(_) => Status::Limit,
+            Ending::TooLong | Ending::TooManySites(_) | Ending::EventLimit(_) => Status::Limit,
             Ending::BadManifest(fault) => manifest_status(fault.kind),
             Ending::BadCircuit(fault) => circuit_status(fault.kind),
             Ending::WrongInputs { .. } => Status::Faulty,

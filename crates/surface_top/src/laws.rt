@@ -1,17 +1,25 @@
-//! Laws of run texts, over their definitions alone.
+//! Laws of run texts, over their definitions alone, and of the runs of compiled circuits.
 
-ghost use Rattle.std.specs.Prelude.{◌≡◌, ◌<◌, ◌≤◌, ◌++◌, ℕ, List, All, length, sum};
+ghost use Rattle.std.specs.Prelude.{◌≡◌, ◌<◌, ◌≤◌, ◌^◌, ◌++◌, ℕ, List, All, IfOk, length, sum};
 ghost use Rattle.surf_kinds.specs.declared.event.Event.{Event};
 ghost use Rattle.surf_kinds.specs.declared.site.SiteState.{SiteState};
 ghost use Rattle.surf_kinds.specs.declared.site.SpeciesId.{SpeciesId};
 ghost use Rattle.lattice.specs.Surface.{first_surface};
 ghost use Rattle.one_engine.specs.State.{LeavesWithin};
 ghost use Rattle.trace_text.specs.Lines.{counts_of};
+ghost use Rattle.circuit_text.specs.Values.{values_of};
+ghost use Rattle.gate_layout.specs.Layout.{layout};
+ghost use Rattle.surface_top.specs.CircuitRuns.{IsLongRun, RunsToItsValues};
 ghost use Rattle.surface_top.specs.Cuts.{events_upto, surface_after, reached_after, first_part, text_by_ticks};
 ghost use Rattle.surface_top.specs.RunText.{Scene, events_of, sampling_ticks, run_text, start};
 ghost use Rattle.surface_top.specs.Writing.{remaining_text};
 
+use circuit_text::Circuit;
+use crn_compile::{CompileError, compile};
+use manifest_read::Manifest;
+use manifest_write::read_again;
 use plan::laws::one_after_the_other;
+use std::alloc::Global;
 use trace_text::laws::each_site_is_counted_once;
 
 /// Where a run has at most as many events as its limit, its text goes tick by tick: the surface that is shown at a
@@ -38,4 +46,18 @@ pub fn counts_are_whole()
         → sum (counts_of (surface_after s (first_surface cells) es) (length s.names)) ≡ length cells }
 {
     each_site_is_counted_once();
+}
+
+/// A run of a compiled circuit ends with the values of its outputs. The words may give any seed and any number of
+/// samples; the manifest's duration is long enough for every circuit.
+pub fn compiled_circuits_run_to_their_values(
+    alloc: Global,
+    circuit: &Circuit,
+    inputs: &[bool],
+) -> Result<Manifest, CompileError>
+    requires few { length inputs.now < 2 ^ 32 }
+    ensures runs { IfOk result (λ m. (words : List (List ℕ)) (samples : ℕ) → IsLongRun words samples → RunsToItsValues circuit.now (values_of circuit.now.nets inputs.now) (layout circuit.now) m words samples) }
+{
+    read_again();
+    compile(alloc, circuit, inputs)
 }

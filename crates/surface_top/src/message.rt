@@ -44,6 +44,7 @@ pub(crate) fn message_of(alloc: Global, ending: Ending) -> Result<String, AllocE
         Ending::BadManifest(fault) => manifest_line(alloc, fault),
         Ending::BadCircuit(fault) => circuit_line(alloc, fault),
         Ending::WrongInputs { expected, given } => inputs_line(alloc, expected, given),
+        Ending::TooManySites(sites) => format!(in alloc; "limit sites {sites}\n"),
         Ending::EventLimit(limit) => format!(in alloc; "limit events {limit}\n"),
         Ending::ReadFault => String::from_str(alloc, "read fault\n"),
         Ending::WriteFault => String::from_str(alloc, "write fault\n"),

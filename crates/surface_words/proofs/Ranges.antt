@@ -8,9 +8,9 @@ use Rattle.surf_text.specs.declared.numbers.Dec.{Dec}
 use Rattle.rates.specs.Durations.{ticks_of, duration_of}
 use Rattle.surface_words.specs.declared.commands.Program.{Program}
 use Rattle.surface_words.specs.declared.commands.Command.{Command}
-use Rattle.surface_words.specs.declared.commands.Command.TheVariants.{Check, Print, Run, Value}
+use Rattle.surface_words.specs.declared.commands.Command.TheVariants.{Check, Print, Run, Compile, Value, Gen, Stress}
 use Rattle.surface_words.specs.declared.options.OptionName.{OptionName}
-use Rattle.surface_words.specs.declared.options.OptionName.TheVariants.{Workers, Until, Samples, Limit, Inputs}
+use Rattle.surface_words.specs.declared.options.OptionName.TheVariants.{Workers, Until, Samples, Limit, Inputs, Number}
 use Rattle.surface_words.specs.declared.words.Words.{Words}
 use Rattle.surface_words.specs.Commands.{command_of, option_of, same_option, whole_in, number_of}
 use Rattle.surface_words.specs.Accepted.{Pair, pairs_of, with_pair, is_accepted}
@@ -87,6 +87,15 @@ pairs_length (name ∷ value ∷ words) pairs h = by_option (option_of name) (pa
     by_option None p e behind h = absurd (cc)
     by_option (Some option) p e behind h = by_pairs option (pairs_of words) refl behind h
 
+inputs_within : (o : Option ℕ) (pairs : List Pair) (count : ℕ) → count ≡ 1 + 2 * length pairs → IfSome o (λ index. index + 2 ≤ 2 + 2 * length pairs) → IfSome o (λ index. index < count)
+inputs_within None pairs count e h = tt
+inputs_within (Some index) pairs count e h = omega (arith, e, h)
+
+number_within : (pairs : List Pair) → unwrap_or (number_given Number pairs) 0 ≤ 1000000000
+number_within pairs =
+    let within = with_default (IsWithin 0 1000000000) (number_given Number pairs) 0 (given_within Number (IsWithin 0 1000000000) (whole_within 0 1000000000) pairs) (lit≤ tt, lit≤ tt) in
+    within.1
+
 words_within : (command : Command) (pairs : List Pair) (count : ℕ) → count ≡ 1 + 2 * length pairs → IsInRange count (words_of command pairs)
 words_within Check pairs count e = tt
 words_within Print pairs count e = tt
@@ -101,11 +110,12 @@ words_within Run pairs count e =
       samples_at_most = samples.1;
       limit_at_most = limit.1;
     }
-words_within Value pairs count e = by (index_given Inputs 2 pairs) (index_below Inputs pairs 2)
-  where
-    by : (o : Option ℕ) → IfSome o (λ index. index + 2 ≤ 2 + 2 * length pairs) → IfSome o (λ index. index < count)
-    by None h = tt
-    by (Some index) h = omega (arith, e, h)
+words_within Compile pairs count e = inputs_within (index_given Inputs 2 pairs) pairs count e (index_below Inputs pairs 2)
+words_within Value pairs count e = inputs_within (index_given Inputs 2 pairs) pairs count e (index_below Inputs pairs 2)
+words_within Gen pairs count e = number_within pairs
+words_within Stress pairs count e =
+    let workers = with_default (IsWithin 1 64) (number_given Workers pairs) 1 (given_within Workers (IsWithin 1 64) (whole_within 1 64) pairs) (lit≤ tt, lit≤ tt) in
+    record { workers_at_least = workers.0; workers_at_most = workers.1; number_at_most = number_within pairs }
 
 pub reading_within : (program : Program) (words : List (List ℕ)) (w : Words) → reading program words ≡ Some w → IsInRange (length words) w
 reading_within program words w h = by (is_accepted program words) h

@@ -4,7 +4,7 @@ use Rattle.std.specs.List.{list_all}
 use Rattle.std.specs.Option.{option_map, option_or}
 use Rattle.surface_words.specs.declared.given.Given.{Given}
 use Rattle.surface_words.specs.declared.options.OptionName.{OptionName}
-use Rattle.surface_words.specs.declared.options.OptionName.TheVariants.{Workers, Seed, Until, Samples, Limit, Inputs}
+use Rattle.surface_words.specs.declared.options.OptionName.TheVariants.{Workers, Seed, Until, Samples, Limit, Inputs, Number}
 use Rattle.surface_words.specs.Commands.{same_option, number_of, is_bit, is_allowed}
 use Rattle.surface_words.specs.Accepted.{Pair}
 use Rattle.surface_words.specs.Reading.{number_given, index_given}
@@ -19,6 +19,7 @@ merged given at pairs = record {
   samples = option_or given.samples (number_given Samples pairs);
   limit = option_or given.limit (number_given Limit pairs);
   inputs = option_or given.inputs (index_given Inputs at pairs);
+  number = option_or given.number (number_given Number pairs);
 }
 
 abbrev HasMore : Given → OptionName → Given → OptionName → Type 0
@@ -74,6 +75,12 @@ step_inputs old value index = record {
   same_rest = λ h pairs. let none = none_where old.inputs h in rw none refl;
 }
 
+step_number : (old : Given) (value : List ℕ) (index n : ℕ) → number_of Number value ≡ Some n → IsStep old Number value index (record old { number = Some n })
+step_number old value index n e = record {
+  has_more = λ other. elim other as (HasMore old Number (record old { number = Some n })) [ Number ↦ refl | _ ↦ refl ];
+  same_rest = λ h pairs. let none = none_where old.number h in rw (none, e) refl;
+}
+
 by_test : (b : Bool) (made new : Given) → cond b (Some made) None ≡ Some new → made ≡ new
 by_test true made new h = cc
 by_test false made new h = absurd (cc)
@@ -85,6 +92,7 @@ step_is old Until value index new h = by_number (λ n. record old { until = Some
 step_is old Samples value index new h = by_number (λ n. record old { samples = Some n }) (number_of Samples value) new (IsStep old Samples value index) (step_samples old value index) h
 step_is old Limit value index new h = by_number (λ n. record old { limit = Some n }) (number_of Limit value) new (IsStep old Limit value index) (step_limit old value index) h
 step_is old Inputs value index new h = subst (IsStep old Inputs value index) (by_test (list_all is_bit value) (record old { inputs = Some index }) new h) (step_inputs old value index)
+step_is old Number value index new h = by_number (λ n. record old { number = Some n }) (number_of Number value) new (IsStep old Number value index) (step_number old value index) h
 
 is_some_map : (f : ℕ → Given) (number : Option ℕ) → is_some (option_map f number) ≡ is_some number
 is_some_map f None = refl
@@ -102,3 +110,4 @@ allowed_is old Until value index = is_some_map (λ n. record old { until = Some 
 allowed_is old Samples value index = is_some_map (λ n. record old { samples = Some n }) (number_of Samples value)
 allowed_is old Limit value index = is_some_map (λ n. record old { limit = Some n }) (number_of Limit value)
 allowed_is old Inputs value index = is_some_test (list_all is_bit value) (record old { inputs = Some index })
+allowed_is old Number value index = is_some_map (λ n. record old { number = Some n }) (number_of Number value)

@@ -8,19 +8,22 @@ use Rattle.rates.specs.Durations.{duration_of}
 use Rattle.surface_words.specs.declared.commands.Program.{Program}
 use Rattle.surface_words.specs.declared.commands.Program.TheVariants as program
 use Rattle.surface_words.specs.declared.commands.Command.{Command}
-use Rattle.surface_words.specs.declared.commands.Command.TheVariants.{Check, Print, Run, Value}
+use Rattle.surface_words.specs.declared.commands.Command.TheVariants.{Check, Print, Run, Compile, Value, Gen, Stress}
 use Rattle.surface_words.specs.declared.options.OptionName.{OptionName}
-use Rattle.surface_words.specs.declared.options.OptionName.TheVariants.{Workers, Seed, Until, Samples, Limit, Inputs}
+use Rattle.surface_words.specs.declared.options.OptionName.TheVariants.{Workers, Seed, Until, Samples, Limit, Inputs, Number}
 
 abbrev pub commands_of : Program → List Command
-commands_of program.Surface = Check ∷ Print ∷ Run ∷ Value ∷ []
+commands_of program.Surface = Check ∷ Print ∷ Run ∷ Compile ∷ Value ∷ Gen ∷ Stress ∷ []
 commands_of program.Watch = []
 
 abbrev pub command_text : Command → List ℕ
 command_text Check = codes "check"
 command_text Print = codes "print"
 command_text Run = codes "run"
+command_text Compile = codes "compile"
 command_text Value = codes "value"
+command_text Gen = codes "gen"
+command_text Stress = codes "stress"
 
 -- the command of a program that a word names
 abbrev pub command_of : Program → List ℕ → Option Command
@@ -33,9 +36,10 @@ option_text Until = codes "--until"
 option_text Samples = codes "--samples"
 option_text Limit = codes "--limit"
 option_text Inputs = codes "--inputs"
+option_text Number = codes "--number"
 
 abbrev pub all_options : List OptionName
-all_options = Workers ∷ Seed ∷ Until ∷ Samples ∷ Limit ∷ Inputs ∷ []
+all_options = Workers ∷ Seed ∷ Until ∷ Samples ∷ Limit ∷ Inputs ∷ Number ∷ []
 
 -- the option that a word names
 abbrev pub option_of : List ℕ → Option OptionName
@@ -51,7 +55,10 @@ abbrev pub options_of : Command → List OptionName
 options_of Check = []
 options_of Print = []
 options_of Run = Workers ∷ Seed ∷ Until ∷ Samples ∷ Limit ∷ []
+options_of Compile = Inputs ∷ []
 options_of Value = Inputs ∷ []
+options_of Gen = Number ∷ []
+options_of Stress = Workers ∷ Number ∷ []
 
 abbrev pub has_option : Command → OptionName → Bool
 has_option command option = is_among option (options_of command)
@@ -68,6 +75,7 @@ number_of Until value = duration_of value
 number_of Samples value = whole_in 0 10000 value
 number_of Limit value = whole_in 0 10000000 value
 number_of Inputs value = None
+number_of Number value = whole_in 0 1000000000 value
 
 -- 0 or 1
 abbrev pub is_bit : ℕ → Bool

@@ -1,11 +1,11 @@
 -- What accepted words say.
-use Rattle.std.specs.Prelude.{ℕ, Bool, true, ◌+◌, ◌^◌, ◌<◌, ◌≤◌, List, [], ◌∷◌, Option, Some, None, unwrap_or, IfSome, if◌then◌else◌}
+use Rattle.std.specs.Prelude.{ℕ, Bool, true, false, ◌+◌, ◌^◌, ◌<◌, ◌≤◌, List, [], ◌∷◌, Option, Some, None, unwrap_or, IfSome, if◌then◌else◌}
 use Rattle.std.specs.Option.{option_map, option_and_then}
 use Rattle.surface_words.specs.declared.commands.Program.{Program}
 use Rattle.surface_words.specs.declared.commands.Command.{Command}
-use Rattle.surface_words.specs.declared.commands.Command.TheVariants.{Check, Print, Run, Value}
+use Rattle.surface_words.specs.declared.commands.Command.TheVariants.{Check, Print, Run, Compile, Value, Gen, Stress}
 use Rattle.surface_words.specs.declared.options.OptionName.{OptionName}
-use Rattle.surface_words.specs.declared.options.OptionName.TheVariants.{Workers, Seed, Until, Samples, Limit, Inputs}
+use Rattle.surface_words.specs.declared.options.OptionName.TheVariants.{Workers, Seed, Until, Samples, Limit, Inputs, Number}
 use Rattle.surface_words.specs.declared.words.Words.{Words}
 use Rattle.surface_words.specs.declared.words.Words.TheVariants as variant
 use Rattle.surface_words.specs.Commands.{command_of, same_option, number_of}
@@ -35,7 +35,10 @@ words_of Run pairs = variant.Run
     (number_given Until pairs)
     (unwrap_or (number_given Samples pairs) 1)
     (unwrap_or (number_given Limit pairs) 1000000)
+words_of Compile pairs = variant.Compile (index_given Inputs 2 pairs)
 words_of Value pairs = variant.Value (index_given Inputs 2 pairs)
+words_of Gen pairs = variant.Gen (unwrap_or (number_given Number pairs) 0)
+words_of Stress pairs = variant.Stress (unwrap_or (number_given Workers pairs) 1) (unwrap_or (number_given Number pairs) 0)
 
 -- what a list of words spells, whether it is accepted or not
 abbrev pub spelled_words : Program → List (List ℕ) → Option Words
@@ -51,7 +54,10 @@ abbrev pub reads : Words → Bool
 reads variant.Check = true
 reads variant.Print = true
 reads (variant.Run workers seed until samples limit) = true
+reads (variant.Compile inputs) = true
 reads (variant.Value inputs) = true
+reads (variant.Gen number) = false
+reads (variant.Stress workers number) = false
 
 -- the bounds of a run
 pub record IsRunInRange (workers : ℕ) (until : Option ℕ) (samples limit : ℕ) : Type 0 where
@@ -61,9 +67,18 @@ pub record IsRunInRange (workers : ℕ) (until : Option ℕ) (samples limit : �
   pub samples_at_most : samples ≤ 10000
   pub limit_at_most : limit ≤ 10000000
 
+-- the bounds of a run that is generated
+pub record IsStressInRange (workers number : ℕ) : Type 0 where
+  pub workers_at_least : 1 ≤ workers
+  pub workers_at_most : workers ≤ 64
+  pub number_at_most : number ≤ 1000000000
+
 -- the bounds of what a list of so many words says
 abbrev pub IsInRange : ℕ → Words → Type 0
 IsInRange count variant.Check = Unit {0}
 IsInRange count variant.Print = Unit {0}
 IsInRange count (variant.Run workers seed until samples limit) = IsRunInRange workers until samples limit
+IsInRange count (variant.Compile inputs) = IfSome inputs (λ index. index < count)
 IsInRange count (variant.Value inputs) = IfSome inputs (λ index. index < count)
+IsInRange count (variant.Gen number) = number ≤ 1000000000
+IsInRange count (variant.Stress workers number) = IsStressInRange workers number

@@ -17,7 +17,10 @@ pub(crate) enum Command {
     Check,
     Print,
     Run,
+    Compile,
     Value,
+    Gen,
+    Stress,
 }
 
 impl Command {
@@ -30,7 +33,10 @@ impl Command {
                 "check" => Some(Command::Check),
                 "print" => Some(Command::Print),
                 "run" => Some(Command::Run),
+                "compile" => Some(Command::Compile),
                 "value" => Some(Command::Value),
+                "gen" => Some(Command::Gen),
+                "stress" => Some(Command::Stress),
                 _ => None,
             },
             Program::Watch => None,
@@ -48,9 +54,11 @@ impl Command {
                 | OptionName::Until
                 | OptionName::Samples
                 | OptionName::Limit => true,
-                OptionName::Inputs => false,
+                OptionName::Inputs | OptionName::Number => false,
             },
-            Command::Value => matches!(option, OptionName::Inputs),
+            Command::Compile | Command::Value => matches!(option, OptionName::Inputs),
+            Command::Gen => matches!(option, OptionName::Number),
+            Command::Stress => matches!(option, OptionName::Workers | OptionName::Number),
         }
     }
 }

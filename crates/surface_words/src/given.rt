@@ -22,6 +22,7 @@ pub(crate) struct Given {
     pub(crate) limit: Option<u64>,
     /// The index of the word.
     pub(crate) inputs: Option<usize>,
+    pub(crate) number: Option<u64>,
 }
 
 impl Given {
@@ -35,6 +36,7 @@ impl Given {
             samples: None,
             limit: None,
             inputs: None,
+            number: None,
         }
     }
 
@@ -48,6 +50,7 @@ impl Given {
             OptionName::Samples => self.samples.is_some(),
             OptionName::Limit => self.limit.is_some(),
             OptionName::Inputs => self.inputs.is_some(),
+            OptionName::Number => self.number.is_some(),
         }
     }
 
@@ -68,6 +71,7 @@ impl Given {
                 }
                 given.inputs = Some(index);
             }
+            OptionName::Number => given.number = Some(whole(value, 0, 1_000_000_000)?),
         }
         Some(given)
     }

@@ -14,6 +14,7 @@ pub(crate) enum OptionName {
     Samples,
     Limit,
     Inputs,
+    Number,
 }
 
 impl OptionName {
@@ -28,6 +29,7 @@ impl OptionName {
             "--samples" => Some(OptionName::Samples),
             "--limit" => Some(OptionName::Limit),
             "--inputs" => Some(OptionName::Inputs),
+            "--number" => Some(OptionName::Number),
             _ => None,
         }
     }

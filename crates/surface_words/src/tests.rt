@@ -43,9 +43,35 @@ fn accepted_words(rt: HostRuntime) -> Result<(), Fail> {
         ),
         ("value", Words::Value { inputs: None }),
         ("value --inputs 0110", Words::Value { inputs: Some(2) }),
+        ("compile", Words::Compile { inputs: None }),
+        ("compile --inputs 10", Words::Compile { inputs: Some(2) }),
     ] {
         assert_eq!(rt; read(rt.alloc(), line, Program::Surface)?, Ok(words));
         assert!(rt; words.reads());
+    }
+    Ok(())
+}
+
+fn stress(workers: u64, number: u64) -> Words {
+    Words::Stress { workers, number }
+}
+
+#[test]
+fn generated_runs_read_nothing(rt: HostRuntime) -> Result<(), Fail> {
+    for (line, words) in [
+        ("gen", Words::Gen { number: 0 }),
+        (
+            "gen --number 1000000000",
+            Words::Gen {
+                number: 1_000_000_000,
+            },
+        ),
+        ("stress", stress(1, 0)),
+        ("stress --number 7", stress(1, 7)),
+        ("stress --number 008 --workers 64", stress(64, 8)),
+    ] {
+        assert_eq!(rt; read(rt.alloc(), line, Program::Surface)?, Ok(words));
+        assert!(rt; !words.reads());
     }
     Ok(())
 }
@@ -82,6 +108,13 @@ fn the_first_wrong_word_is_named(rt: HostRuntime) -> Result<(), Fail> {
         ("run --samples 10001", 2),
         ("run --limit 10000001", 2),
         ("value --inputs 012", 2),
+        ("compile --inputs 2", 2),
+        ("compile --number 1", 1),
+        ("gen --workers 1", 1),
+        ("gen --number", 2),
+        ("gen --number 1000000001", 2),
+        ("stress --workers 0", 2),
+        ("stress --number 1 --seed 1", 3),
         ("run --workers 2 --workers 2", 3),
         ("run --workers 2 --seed", 4),
         ("run --workers 2 --seed x y", 4),

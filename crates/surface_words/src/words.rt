@@ -26,9 +26,23 @@ pub enum Words {
         /// The most events, at most 10,000,000.
         limit: u64,
     },
-    Value {
+    Compile {
         /// The index of the word with the inputs, which has the characters 0 and 1 alone.
         inputs: Option<usize>,
+    },
+    Value {
+        /// As for `Compile`.
+        inputs: Option<usize>,
+    },
+    Gen {
+        /// The number of the manifest, at most 1,000,000,000.
+        number: u64,
+    },
+    Stress {
+        /// From 1 to 64.
+        workers: u64,
+        /// The number of the manifest, at most 1,000,000,000.
+        number: u64,
     },
 }
 
@@ -47,8 +61,18 @@ impl Words {
                 samples: given.samples.unwrap_or(1),
                 limit: given.limit.unwrap_or(1_000_000),
             },
+            Command::Compile => Words::Compile {
+                inputs: given.inputs,
+            },
             Command::Value => Words::Value {
                 inputs: given.inputs,
+            },
+            Command::Gen => Words::Gen {
+                number: given.number.unwrap_or(0),
+            },
+            Command::Stress => Words::Stress {
+                workers: given.workers.unwrap_or(1),
+                number: given.number.unwrap_or(0),
             },
         }
     }
@@ -82,7 +106,12 @@ impl Words {
         ensures { result ≡ reads self.now }
     {
         match self {
-            Words::Check | Words::Print | Words::Run { .. } | Words::Value { .. } => true,
+            Words::Check
+            | Words::Print
+            | Words::Run { .. }
+            | Words::Compile { .. }
+            | Words::Value { .. } => true,
+            Words::Gen { .. } | Words::Stress { .. } => false,
         }
     }
 }

@@ -11,7 +11,7 @@ pub mod laws;
 mod line;
 mod lines;
 
-pub use lines::{write_end, write_event, write_limit, write_surface};
+pub use lines::{write_counts, write_end, write_event, write_limit, write_surface};
 
 #[cfg(test)]
 mod tests;

@@ -103,8 +103,8 @@ fn write_count<O: Sink>(
     put(out, line.bytes())
 }
 
-/// Writes the line of the counts.
-fn write_counts<O: Sink>(out: &mut O, names: &Names, surface: &Surface) -> Result<(), Failed>
+/// Writes the line of the counts of a surface.
+pub fn write_counts<O: Sink>(out: &mut O, names: &Names, surface: &Surface) -> Result<(), Failed>
     requires { surface.now.species_count ≡ length names.now }
     ensures { Puts (O.written out.old) (O.written out.new) (O.faults out.old) (O.faults out.new) (counts_text names.now surface.now.sites) result }
 {
