@@ -25,4 +25,6 @@ pub use call::surface_main;
 pub use surface_words::{Program, Words};
 
 #[cfg(test)]
+mod circuit_tests;
+#[cfg(test)]
 mod tests;

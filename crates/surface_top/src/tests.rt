@@ -29,7 +29,7 @@ const DEMO: &str =
 const DEMO_TEXT: &str =
     "rng_seed = 7\nmax_duration = 2.5\nlattice = square\nwrap = false\npixels_per_node = 50\nfps = 60\n!START_TRANSITION_RULES\n(1) A + B -> B + A\n(1/4) C -> A\n!END_TRANSITION_RULES\n!START_INIT_STATE\nA B\nC A\n!END_INIT_STATE\n!START_COLORMAP\nA: (255, 0, 0)\n!END_COLORMAP\n";
 
-const XOR: &str = "input a b\nx = XOR a b\noutput x\n";
+pub(crate) const XOR: &str = "input a b\nx = XOR a b\noutput x\n";
 
 /// Commands, options and their output.
 const ANSWERED: [Row; 23] = [
@@ -197,7 +197,7 @@ const ANSWERED: [Row; 23] = [
 ];
 
 /// Refusals.
-const REFUSED: [Row; 11] = [
+const REFUSED: [Row; 13] = [
     Row {
         line: "",
         text: CATALYST,
@@ -274,6 +274,20 @@ const REFUSED: [Row; 11] = [
         status: Status::Faulty,
         out: "",
         notes: "circuit WrongInputs 2 1\n",
+    },
+    Row {
+        line: "compile --inputs 1",
+        text: XOR,
+        status: Status::Faulty,
+        out: "",
+        notes: "circuit WrongInputs 2 1\n",
+    },
+    Row {
+        line: "gen --number 1000000001",
+        text: XOR,
+        status: Status::Words,
+        out: "",
+        notes: "words 2\n",
     },
 ];
 
@@ -468,8 +482,8 @@ fn there_are_up_to_4096_species(rt: HostRuntime) -> Result<(), Fail> {
     )
 }
 
-/// Runs words on a text and gives what stands in the sink.
-fn written<R: Threads + Sync + Abort>(
+/// Runs words on a text and gives what stands in the sink, of up to 10,000,000 bytes.
+pub(crate) fn written<R: Threads + Sync + Abort>(
     rt: &R,
     alloc: Global,
     line: &str,
@@ -480,7 +494,7 @@ fn written<R: Threads + Sync + Abort>(
         words.push(String::from_str(alloc, *word)?)?;
     }
     let mut source = MemSource::new(alloc, text.as_bytes(), 65_536, &[])?;
-    let mut out = MemSink::new(alloc, 1_000_000, 100_000, &[])?;
+    let mut out = MemSink::new(alloc, 10_000_000, 100_000, &[])?;
     let mut notes = MemSink::new(alloc, 100, 100, &[])?;
     let status = surface_main(
         rt,
