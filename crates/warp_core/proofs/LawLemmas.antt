@@ -2,9 +2,12 @@
 pub use Rattle.warp_core.proofs.Theory.Locals.{only_one, cut}
 pub use Rattle.warp_core.proofs.Theory.Moves.{first_consistent}
 pub use Rattle.warp_core.proofs.Theory.Runs.{step_keeps, steps_keep, core_law, committed_law, step_grows, steps_grow}
-pub use Rattle.warp_core.proofs.Theory.PartRuns.{runs, round_keeps, sound_rebased, sound_raised}
+pub use Rattle.warp_core.proofs.Theory.PartRuns.{runs, round_keeps, sound_rebased, sound_raised, next_rebased, none_rebased}
 pub use Rattle.warp_core.proofs.Theory.Later.{offers_late}
 pub use Rattle.warp_core.proofs.Simulation.Instance.{is_world, is_monotone, same_after_all}
 pub use Rattle.warp_core.proofs.Theory.Delivers.{take_falls}
 pub use Rattle.warp_core.proofs.Theory.Sweeps.{takes_join, takes_consistent, takes_horizon, takes_end, swept_none, swept_rows, swept_nothing, swept_end, swept_took, swept_one, swept_no_one, swept_not, swept_row, swept_no_row, swept_measure, swept_empty, least_first, least_better, least_other}
 pub use Rattle.warp_core.proofs.Theory.Settles.{settles_first, passing_first, passing_skips, passing_steps, settles_next, settles_falls, settles_done, finishing_first, finishing_skips, finishing_steps, finishing_done, may_commit, round_gives, round_moves, handed_out, pass_settles, pass_lags, two_passes}
+pub use Rattle.warp_core.proofs.Theory.Commits.{own_base_kept, commit_keeps}
+pub use Rattle.warp_core.proofs.Theory.Merging.{mergeable, merged_is}
+pub use Rattle.warp_core.proofs.Theory.Forgets.{forgetful_keeps}

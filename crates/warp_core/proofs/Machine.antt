@@ -10,7 +10,6 @@ pub mod Homes
 pub mod Entries
 pub mod Alike
 pub mod Stepping
-pub mod Listed
 pub mod Committing
 pub mod Committed
 pub mod First

@@ -14,3 +14,6 @@ pub mod Passes
 pub mod LeastNext
 pub mod Sweeps
 pub mod Settles
+pub mod Listed
+pub mod Merging
+pub mod Forgets

@@ -1,20 +1,23 @@
 //! Laws of the core, over its definitions alone, for every world that meets the laws of a simulation.
 
-ghost use Rattle.std.specs.Prelude.{◌≡◌, ◌<◌, ◌≤◌, ◌+◌, ◌^◌, ◌++◌, ◌⊎◌, ℕ, List, [], Option, Bool, Some, length};
+ghost use Rattle.std.specs.Prelude.{◌≡◌, ◌<◌, ◌≤◌, ◌+◌, ◌^◌, ◌++◌, ◌⊎◌, ℕ, List, [], Option, Bool, Some, length, slice_index_or, IsPermutation};
+ghost use Rattle.ordered_commit.specs.Merge.{AreMergeable, all_events};
 ghost use Rattle.surf_kinds.specs.declared.event.Event.{Event};
 ghost use Rattle.surf_kinds.specs.declared.event.Key.{Key};
 ghost use Rattle.surf_kinds.specs.declared.site.SiteState.{SiteState};
-ghost use Rattle.surf_kinds.specs.Keys.{key_of, below, from, ◌is_below◌, ◌is_upto◌};
+ghost use Rattle.surf_kinds.specs.Keys.{RiseStrictly, key_of, keep, below, from, ◌is_below◌, ◌is_upto◌};
 ghost use Rattle.border.specs.declared.op.Op.{Op as Message};
+ghost use Rattle.border.specs.Messages.{IsLawful};
+ghost use Rattle.warp_core.specs.Messages.{partition_of};
 ghost use Rattle.plan.specs.Network.{Network};
 ghost use Rattle.regions.specs.Bands.{Bands, IsCut};
-ghost use Rattle.warp_core.specs.World.{World, IsWorld, IsMonotone, Agree, after_all, end_key};
+ghost use Rattle.warp_core.specs.World.{World, IsWorld, IsMonotone, Agree, is_own, after_all, end_key};
 ghost use Rattle.warp_core.specs.Simulation.{world_of};
 ghost use Rattle.warp_core.specs.Timelines.{IsLocal};
-ghost use Rattle.warp_core.specs.Parts.{Part, PartStep, IsSound, MayRun, IsRun, part_run, run_puts, run_takes};
+ghost use Rattle.warp_core.specs.Parts.{Part, PartStep, IsSound, IsNextEntry, HasNoEntry, MayRun, IsRun, after_take, take_puts, part_run, run_puts, run_takes};
 ghost use Rattle.warp_core.specs.Cores.{Core, IsConsistent, base_of, first_core};
 ghost use Rattle.warp_core.specs.declared.step.Step.{Step};
-ghost use Rattle.warp_core.specs.Steps.{StepOf, StepsOf, IsPrefixOf, MayCommit, own_events_below};
+ghost use Rattle.warp_core.specs.Steps.{StepOf, StepsOf, IsPrefixOf, MayCommit, own_events_below, after_commit};
 ghost use Rattle.warp_core.specs.Settling.{load, lag, AreTakes, AreEmpty, ArePast, TakesTo, IsLeastNext, IsLeastClock, IsPass, IsSettling, IsSettled};
 
 /// At most one timeline is local: for given places, base surface, floor, incoming events and clock.
@@ -65,6 +68,14 @@ pub fn the_history_is_committed()
     ensures grows { (w : World) (old new : Core) (steps : List Step) → StepsOf w old steps new → IsPrefixOf old.committed new.committed }
 {}
 
+/// A region passes over a Put that isn't lawful for it, and puts nothing then. A Back below the floor acts as one at the
+/// floor.
+pub fn messages_are_tested()
+    ensures passed_over { (w : World) (floor : Key) (i j : ℕ) (p : Part) (e : Event) → (IsLawful (partition_of w) j i floor e → ⊥) → after_take w floor i p j (Message.Put e) ≡ p }
+    ensures nothing_put { (w : World) (floor : Key) (i j l : ℕ) (p : Part) (e : Event) → (IsLawful (partition_of w) j i floor e → ⊥) → take_puts w floor i p j (Message.Put e) l ≡ [] }
+    ensures at_floor { (w : World) (floor key : Key) (i j : ℕ) (p : Part) → key is_below floor → after_take w floor i p j (Message.Back key) ≡ after_take w floor i p j (Message.Back floor) }
+{}
+
 /// A run of Fire, Pass and Take of one region, from a sound part, has four facts that need nothing of the other
 /// regions: what it made of the stacks, that the part is sound, what it told, and that all of that was lawful.
 pub fn a_run_keeps_a_part_sound()
@@ -82,13 +93,18 @@ pub fn runs_join()
         → IsConsistent w (record c { part = λ i. part_run w c.horizon i (c.part i) (steps i); channel = channel }) }
 {}
 
-/// A part that is sound for one base is sound for every base that agrees with it at the sites that the region sees. A
+/// A part that is sound for one base is sound for every base that agrees with it at the sites that the region sees, and
+/// has the same next entry. A
 /// part whose floor moves up to a key that is at most its clock, and that forgets the entries below the key, is sound
 /// for the surface after these.
 pub fn a_base_may_move()
     ensures agree { (w : World) → IsWorld w → (i : ℕ) (a b : List SiteState) (floor : Key) (p : Part) → Agree w i a b → IsSound w a floor i p → IsSound w b floor i p }
+    ensures next { (w : World) → IsWorld w → (i : ℕ) (a b : List SiteState) (p : Part) (e : Event) → Agree w i a b → IsNextEntry w a i p e → IsNextEntry w b i p e }
+    ensures none { (w : World) → IsWorld w → (i : ℕ) (a b : List SiteState) (p : Part) → Agree w i a b → HasNoEntry w a i p → HasNoEntry w b i p }
     ensures raised { (w : World) (i : ℕ) (base : List SiteState) (floor key : Key) (p : Part) → floor is_upto key → key is_upto p.clock
         → IsSound w base floor i p → IsSound w (after_all w base (below key p.timeline)) key i (record p { timeline = from key p.timeline }) }
+    ensures committed { (w : World) → IsWorld w → (c : Core) (key : Key) → IsConsistent w c → MayCommit w c key → (i : ℕ) → i < w.regions → (a : List SiteState) → Agree w i a (base_of w c)
+        → Agree w i (after_all w a (below key (c.part i).timeline)) (base_of w (after_commit w c key)) }
 {}
 
 /// In a consistent configuration no place of a region offers an event before the region's clock. So a region may ask for
@@ -132,4 +148,20 @@ pub fn a_settled_round_commits()
     ensures handed { (w : World) → IsWorld w → (c : Core) (k : Key) → IsConsistent w c → MayCommit w c k → own_events_below w c k w.regions ≡ from c.horizon (below k w.history) }
     ensures some { (w : World) → IsWorld w → (old new : Core) (k : Key) → IsSettled w old new → IsLeastClock w new k → (k ≡ end_key w) ⊎ (own_events_below w new k w.regions ≡ [] → ⊥) }
     ensures moves { (w : World) (old new : Core) (k : Key) → IsSettled w old new → IsLeastClock w new k → new.horizon is_below end_key w → new.horizon is_below k }
+{}
+
+/// Lists with the own events of the regions below a key that may be committed, one list for each region, can be merged;
+/// and merged they are what the core commits.
+pub fn merged_lists_are_committed()
+    ensures mergeable { (w : World) → IsWorld w → (c : Core) → IsConsistent w c → (k : Key) → MayCommit w c k → (lists : List (List Event)) → length lists ≡ w.regions
+        → ((i : ℕ) → i < w.regions → slice_index_or lists i [] ≡ keep (is_own w i) (below k (c.part i).timeline)) → AreMergeable lists }
+    ensures merged { (w : World) → IsWorld w → (c : Core) → IsConsistent w c → (k : Key) → MayCommit w c k → (lists : List (List Event)) → length lists ≡ w.regions
+        → ((i : ℕ) → i < w.regions → slice_index_or lists i [] ≡ keep (is_own w i) (below k (c.part i).timeline))
+        → (events : List Event) → IsPermutation (all_events lists) events → RiseStrictly events → events ≡ own_events_below w c k w.regions }
+{}
+
+/// The stacks of a consistent configuration may forget what lies below the horizon.
+pub fn stacks_may_forget()
+    ensures { (w : World) (c : Core) → IsConsistent w c
+        → IsConsistent w (record c { part = λ i. record { timeline = (c.part i).timeline; clock = (c.part i).clock; stack = λ j. from c.horizon ((c.part i).stack j) } }) }
 {}

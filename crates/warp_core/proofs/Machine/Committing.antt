@@ -30,7 +30,7 @@ use Rattle.warp_core.specs.declared.config.Config.{Config}
 use Rattle.warp_core.specs.declared.region.Region.{Region}
 use Rattle.warp_core.proofs.Theory.Cuts.{at_below, at_below_none}
 use Rattle.warp_core.proofs.Theory.Commits.{gathered_rising, gathered_late, gathered_has}
-use Rattle.warp_core.proofs.Machine.Listed.{In, contains_in, in_contains, in_all, all_in, in_keys, at_member, member_at}
+use Rattle.warp_core.proofs.Theory.Merging as merging
 use Rattle.warp_core.proofs.Machine.Cores.{part_is, outbox_is, get_is}
 use Rattle.warp_core.proofs.Machine.Stepping.{some_region, setting_here, sized_at}
 
@@ -116,90 +116,8 @@ module _ (n : Network) (s : Setting) (c : Config) (g : IsConfigOf n s c) (k : Ke
         ∙ (ap (λ (x : Region). keep (is_own (world_in n s) i) (below k (events_of x.timeline.entries))) (sym r.1)
         ∙ ap (λ part. keep (is_own (world_in n s) i) (below k part.timeline)) (sym (part_is c.regions.items i r.0 q r.1))))
 
-    list_rises : (i : ℕ) → i < s.bands.count → IsRising (slice_index_or (map vec_items vs) i [])
-    list_rises i h = subst IsRising (sym (list_is i h)) (IsRising_keep (is_own (world_in n s) i) (below k ((core_of c).part i).timeline) (IsRising_keep (λ j. is_before j k) ((core_of c).part i).timeline (g.consistent.sound i h).local.rising))
-
-    list_own : (i : ℕ) (e : Event) → i < s.bands.count → In e (slice_index_or (map vec_items vs) i []) → (world_in n s).owner e.place.0 ≡ i
-    list_own i e h m =
-        eqb-true ((world_in n s).owner e.place.0) i
-        (in_keys (λ j. is_own (world_in n s) i j ≡ true) e (slice_index_or (map vec_items vs) i []) (subst (AllKeys (λ j. is_own (world_in n s) i j ≡ true)) (sym (list_is i h)) (AllKeys_kept (is_own (world_in n s) i) (below k ((core_of c).part i).timeline))) m)
-
-    inside_of : (i : ℕ) → i < length (map vec_items vs) → i < s.bands.count
-    inside_of i h = omega (arith, h, count_is)
-
-    other_keys : (e f : Event) → (key_of e ≡ key_of f → ⊥) → HaveOtherKeys e f
-    other_keys e f apart =
-        elim (key_cases (key_of e) (key_of f)) [
-          | inl p ↦ or_left (is_earlier e f) (is_earlier f e) p
-          | inr p ↦ elim (key_cases (key_of f) (key_of e)) [
-            | inl q ↦ or_right (is_earlier e f) (is_earlier f e) q
-            | inr q ↦ absurd (apart (upto_both (key_of e) (key_of f) q p))
-          ]
-        ]
-
-    contains_inside : (i : ℕ) (e : Event) → Contains (slice_index_or (map vec_items vs) i []) e → i < length (map vec_items vs)
-    contains_inside i e c =
-        elim (cases_Bool (nat_lt i (length (map vec_items vs)))) [
-          | inl p ↦ ltb-true i (length (map vec_items vs)) p
-          | inr p ↦ absurd (contains_in e [] (subst (λ l. Contains l e) (get_or_past (map vec_items vs) i [] (ltb-false i (length (map vec_items vs)) p)) c))
-        ]
-
     pub mergeable : AreMergeable (map vec_items vs)
-    mergeable =
-        record {
-          rise = λ i d h. subst RiseStrictly (get_or_default (map vec_items vs) i [] d h) (strictly (slice_index_or (map vec_items vs) i []) (list_rises i (inside_of i h)));
-          differ = λ i j e f lt ce cf.
-              other_keys e f
-              (λ q. omega (
-                arith,
-                lt,
-                sym (list_own i e (inside_of i (contains_inside i e ce)) (contains_in e (slice_index_or (map vec_items vs) i []) ce))
-                    ∙ (ap (λ (key : Key). (world_in n s).owner key.place.0) q
-                    ∙ list_own j f (inside_of j (contains_inside j f cf)) (contains_in f (slice_index_or (map vec_items vs) j []) cf)),
-              ));
-        }
+    mergeable = merging.mergeable (world_in n s) laws (core_of c) g.consistent k may (map vec_items vs) count_is list_is
 
-    module _ (merged : List Event) (all : IsPermutation (all_events (map vec_items vs)) merged) (order : RiseStrictly merged) where
-      rising : IsRising merged
-      rising = rises merged order
-
-      in_merged : (i : ℕ) (e : Event) → i < s.bands.count → In e (slice_index_or (map vec_items vs) i []) → In e merged
-      in_merged i e h m = contains_in e merged (Contains-permutation (all_events (map vec_items vs)) merged e all (in_contains e (all_events (map vec_items vs)) (all_in e (map vec_items vs) i (omega (arith, h, count_is)) m)))
-
-      merged_in : (e : Event) → In e merged → (i : ℕ) × (i < s.bands.count) × In e (slice_index_or (map vec_items vs) i [])
-      merged_in e m =
-          let r = in_all e (map vec_items vs) (contains_in e (all_events (map vec_items vs)) (Contains-permutation merged (all_events (map vec_items vs)) e (IsPermutation-sym (all_events (map vec_items vs)) merged all) (in_contains e merged m))) in
-          (r.0, inside_of r.0 r.1, r.2)
-
-      same_at : (q : Key) → at q merged ≡ at q (slice_index_or (map vec_items vs) ((world_in n s).owner q.place.0) [])
-      same_at q =
-          let o = (world_in n s).owner q.place.0 in
-          let inside : o < s.bands.count = laws.owned q.place.0 in
-          elim (none_or_some (at q (slice_index_or (map vec_items vs) ((world_in n s).owner q.place.0) []))) [
-            | inr found ↦
-                let key : key_of found.0 ≡ q = at_key q (slice_index_or (map vec_items vs) o []) found.0 found.1 in
-                subst (λ j. at j merged ≡ Some found.0) key (at_member found.0 merged rising (in_merged o found.0 inside (member_at q (slice_index_or (map vec_items vs) o []) found.0 found.1))) ∙ sym found.1
-            | inl none ↦ elim (none_or_some (at q merged)) [
-              | inl empty ↦ empty ∙ sym none
-              | inr found ↦
-                  let key : key_of found.0 ≡ q = at_key q merged found.0 found.1 in
-                  let r = merged_in found.0 (member_at q merged found.0 found.1) in
-                  let same : r.0 ≡ o = sym (list_own r.0 found.0 r.1 r.2) ∙ ap (λ (j : Key). (world_in n s).owner j.place.0) key in
-                  absurd (none-some found.0 (sym none
-                  ∙ subst (λ j. at j (slice_index_or (map vec_items vs) o []) ≡ Some found.0) key
-                  (at_member found.0 (slice_index_or (map vec_items vs) o []) (list_rises o inside) (subst (λ m. In found.0 (slice_index_or (map vec_items vs) m [])) same r.2))))
-            ]
-          ]
-
-      pub merged_is : merged ≡ own_events_below (world_in n s) (core_of c) k s.bands.count
-      merged_is =
-          same_tables merged (own_events_below (world_in n s) (core_of c) k s.bands.count) rising (gathered_rising (world_in n s) laws (core_of c) k g.consistent may s.bands.count)
-          (λ q.
-          let o = (world_in n s).owner q.place.0 in
-          let inside : o < s.bands.count = laws.owned q.place.0 in
-          same_at q ∙ (ap (at q) (list_is o inside)
-          ∙ (at_keep_yes (is_own (world_in n s) o) q (below k ((core_of c).part o).timeline) (eq-eqb o o refl)
-          ∙ elim (key_cases q k) [
-            | inl u ↦ at_below k q ((core_of c).part o).timeline u ∙ sym (gathered_has (world_in n s) laws (core_of c) k g.consistent may s.bands.count q u inside)
-            | inr late ↦ at_below_none k q ((core_of c).part o).timeline late ∙ sym (gathered_late (world_in n s) laws (core_of c) k g.consistent may s.bands.count q late)
-          ])))
+    pub merged_is : (merged : List Event) → IsPermutation (all_events (map vec_items vs)) merged → RiseStrictly merged → merged ≡ own_events_below (world_in n s) (core_of c) k s.bands.count
+    merged_is = merging.merged_is (world_in n s) laws (core_of c) g.consistent k may (map vec_items vs) count_is list_is

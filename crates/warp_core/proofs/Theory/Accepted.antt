@@ -8,10 +8,10 @@ use Rattle.std.proofs.lemmas.Bool.Decides.{nat_tests, eqb_tells}
 use Rattle.std.proofs.lemmas.Option.{none-some, same_Some}
 use Rattle.surf_kinds.specs.declared.event.Key.{Key}
 use Rattle.surf_kinds.specs.declared.event.Event.{Event}
-use Rattle.surf_kinds.specs.Keys.{is_before, key_of, ◌is_upto◌}
+use Rattle.surf_kinds.specs.Keys.{is_before, key_of, ◌is_below◌, ◌is_upto◌}
 use Rattle.border.specs.declared.op.Op.{Op}
 use Rattle.border.specs.declared.op.Op.TheVariants.{Put, Back}
-use Rattle.border.specs.Messages.{replay, replay_one, op_key, IsPutOf, is_put_of, is_lawful, accepted_op, IsSent}
+use Rattle.border.specs.Messages.{replay, replay_one, op_key, IsPutOf, IsLawful, is_put_of, is_lawful, accepted_op, IsSent}
 use Rattle.warp_core.specs.Messages.{accepted_ops, AreSent, partition_of}
 use Rattle.warp_core.specs.World.{World, is_own}
 use Rattle.warp_core.specs.Parts.{Part, after_op, after_take}
@@ -101,3 +101,18 @@ accepted_upto w j i floor (Back k) a h =
       | inl p ↦ subst (λ o. k is_upto op_key o) (same_Some (Back floor) a (sym (ap (λ b. cond b (Some (Back floor)) (Some (Back k))) p) ∙ h)) (lt_to_le k floor p)
       | inr p ↦ subst (λ o. k is_upto op_key o) (same_Some (Back k) a (sym (ap (λ b. cond b (Some (Back floor)) (Some (Back k))) p) ∙ h)) (le_refl k)
     ]
+
+-- a Put that isn't lawful is passed over
+pub passed_over : (w : World) (floor : Key) (i j : ℕ) (e : Event) → (IsLawful (partition_of w) j i floor e → ⊥) → accepted_op (partition_of w) j i floor (Put e) ≡ None
+passed_over w floor i j e not_lawful =
+    elim (cases_Bool (is_lawful (partition_of w) j i floor e)) [
+      | inl h ↦
+          let both = and_parts (not (is_before (key_of e) floor)) (is_put_of (partition_of w) j i e) h in
+          absurd (not_lawful (record { from_floor = not-true (is_before (key_of e) floor) both.0; put = tested_put w j i e both.1 }))
+      | inr h ↦ ap (λ b. cond b (Some (Put e)) None) h
+    ]
+
+-- and a Back below the floor is one at the floor
+pub back_at_floor : (w : World) (floor key : Key) (i j : ℕ) → key is_below floor → accepted_op (partition_of w) j i floor (Back key) ≡ accepted_op (partition_of w) j i floor (Back floor)
+back_at_floor w floor key i j h =
+    ap (λ b. cond b (Some (Back floor)) (Some (Back key))) h ∙ sym (ap (λ b. cond b (Some (Back floor)) (Some (Back floor))) (le_refl floor))
