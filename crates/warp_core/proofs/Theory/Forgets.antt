@@ -9,11 +9,12 @@ use Rattle.surf_kinds.specs.Keys.{is_before, key_of, at, below, from, ◌is_belo
 use Rattle.surf_kinds.proofs.Order.{le_refl}
 use Rattle.surf_kinds.proofs.Tables.{keep_yes, keep_no, IsRising_keep}
 use Rattle.border.specs.Messages.{replay}
+use Rattle.border.proofs.LawLemmas.{from_replay}
 use Rattle.warp_core.specs.Messages.{ArePutsOf}
 use Rattle.warp_core.specs.World.{World, is_own, after_all}
 use Rattle.warp_core.specs.Parts.{Part, IsSound}
 use Rattle.warp_core.specs.Cores.{Core, IsConsistent, base_of}
-use Rattle.warp_core.proofs.Theory.Cuts.{at_from, from_replay}
+use Rattle.warp_core.proofs.Theory.Cuts.{at_from}
 use Rattle.warp_core.proofs.Theory.Commits.{from_from}
 use Rattle.warp_core.proofs.Theory.Joined.{sent_from}
 
