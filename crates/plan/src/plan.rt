@@ -9,7 +9,7 @@ ghost use Rattle.plan.specs.Next.{latest, next_at, occurrence, earliest as earli
 ghost use Rattle.plan.specs.Products.{fits_place, has_two, products_of};
 
 use crate::index::{Channel, Index, Reactants};
-use crate::order::earlier_there;
+use crate::order::earlier;
 use draws::Drawer;
 use lattice::Lattice;
 use lattice::plain::{are_ways_same, products};
@@ -106,7 +106,7 @@ impl Plan {
     {
         let mut best = None;
         for channel in channels {
-            best = earlier_there(best, self.armed(*channel, place, occurrence, from));
+            best = earlier(best, Some(self.armed(*channel, place, occurrence, from)));
         }
         best
     }
