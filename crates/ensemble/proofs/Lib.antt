@@ -3,3 +3,4 @@ mod Outcoming
 mod Tabling
 mod Spreading
 mod Wordings
+pub mod LawLemmas

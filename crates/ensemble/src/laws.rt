@@ -1,6 +1,7 @@
 //! Laws of outcomes, over their definitions alone.
 
-ghost use Rattle.std.specs.Prelude.{◌≡◌, ◌≤◌, ◌<◌, ◌+◌, ◌^◌, ℕ, length, take, true, false};
+ghost use Rattle.std.specs.Prelude.{◌≡◌, ◌≤◌, ◌<◌, ◌+◌, ◌^◌, ◌++◌, ℕ, List, length, take, drop, get_or, true, false};
+ghost use Rattle.std.specs.List.{flat_map};
 ghost use Rattle.manifest_read.specs.declared.manifest.Manifest.{Manifest};
 ghost use Rattle.ensemble.specs.declared.outcome.EnsembleSettings.{EnsembleSettings};
 ghost use Rattle.ensemble.specs.Outcomes.{history_with, nth_outcome, nth_seed, outcome_of, outcomes};
@@ -26,4 +27,13 @@ pub fn runs_end_at_the_limit()
 pub fn seeds_follow_one_another()
     ensures next { (s : EnsembleSettings) (i : ℕ) → nth_seed s i + 1 < 2 ^ 64 → nth_seed s (i + 1) ≡ nth_seed s i + 1 }
     ensures wraps { (s : EnsembleSettings) (i : ℕ) → nth_seed s i + 1 ≡ 2 ^ 64 → nth_seed s (i + 1) ≡ 0 }
+{}
+
+/// The lines of outcomes, or other texts of the items of a list, grow by one item at a time, and that of each item stands
+/// between those of the items before it and behind it.
+pub fn lines_follow_one_another<X>()
+    ensures more { (f : X → List ℕ) (xs : List X) (i : ℕ) (d : X) → i < length xs
+        → flat_map f (take (i + 1) xs) ≡ flat_map f (take i xs) ++ f (get_or xs i d) }
+    ensures within { (f : X → List ℕ) (xs : List X) (i : ℕ) (d : X) → i < length xs
+        → (flat_map f (take i xs) ++ f (get_or xs i d)) ++ flat_map f (drop (i + 1) xs) ≡ flat_map f xs }
 {}

@@ -1,2 +1,3 @@
 mod Spaced
 mod RowParts
+pub mod LawLemmas

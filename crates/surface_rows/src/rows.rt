@@ -1,11 +1,11 @@
 //! Rows of names.
 
-ghost use Rattle.std.specs.Prelude.{◌≡◌, ◌*◌, ◌^◌, ◌<◌, ◌≤◌, ◌++◌, ◌∷◌, [], length, map, All, OnOk, OnErr};
+ghost use Rattle.std.specs.Prelude.{◌≡◌, ◌+◌, ◌*◌, ◌^◌, ◌<◌, ◌≤◌, ◌++◌, ◌∷◌, [], length, map, All, OnOk, OnErr};
 ghost use Rattle.std.specs.Io.KnownBytes.{Appends};
 ghost use Rattle.surf_outside.specs.Causes.{HasCause};
 ghost use Rattle.surf_outside.specs.Known.{AppendsPrefix};
 ghost use Rattle.surf_outside.specs.Puts.{Puts};
-ghost use Rattle.surface_rows.specs.Rows.{name_of, spaced, rows_text};
+ghost use Rattle.surface_rows.specs.Rows.{name_of, row_line, spaced, rows_text};
 
 use species::Names;
 use surf_kinds::SpeciesId;
@@ -51,6 +51,25 @@ fn write_row<O: Sink>(out: &mut O, names: &Names, row: &[SpeciesId]) -> Result<(
     put(out, b"\n")
 }
 
+/// Writes the line of one row of a surface; `cells` has the species of each site, row by row. After a fault of the
+/// sink a prefix of the line was written.
+pub fn write_row_of<O: Sink>(
+    out: &mut O,
+    names: &Names,
+    cols: u32,
+    cells: &[SpeciesId],
+    row: u32,
+) -> Result<(), Failed>
+    requires within { row * cols + cols ≤ length cells.now }
+    requires few { length cells.now ≤ 2 ^ 20 }
+    requires known { All (λ s. s.0 < length names.now) cells.now }
+    ensures { Puts (O.written out.old) (O.written out.new) (O.faults out.old) (O.faults out.new) (row_line names.now cols cells.now row ++ 10 ∷ []) result }
+{
+    let cols = cols as usize;
+    let from = row as usize * cols;
+    write_row(out, names, &cells[from..from + cols])
+}
+
 /// Writes the rows of a surface, each as a line of names with one space between. `cells` has the species of each
 /// site, row by row. After a fault of the sink a prefix of the text was written.
 pub fn write_rows<O: Sink>(
@@ -67,10 +86,8 @@ pub fn write_rows<O: Sink>(
     ensures err { OnErr result (AppendsPrefix (O.written out.old) (O.written out.new) (rows_text names.now rows cols cells.now)) }
     ensures cause { HasCause (O.faults out.old) (O.faults out.new) result }
 {
-    let cols = cols as usize;
-    for row in 0..rows as usize {
-        let from = row * cols;
-        write_row(out, names, &cells[from..from + cols])?;
+    for row in 0..rows {
+        write_row_of(out, names, cols, cells, row)?;
     }
     Ok(())
 }

@@ -59,7 +59,7 @@ begins_ends names network span first copy engine w a b r is made h e =
 sent_all : (a b : Page) (x : List ℕ) → a.pending ≡ [] → Sent a b x → Appends a.written b.written x
 sent_all a b x none p = wrote_all a b x p.wrote none p.none
 
-stopped_prefix : (a b : Page) (x : List ℕ) (stop : Stop) → a.pending ≡ [] → Stopped a b x stop → AppendsPrefix a.written b.written x
+pub stopped_prefix : (a b : Page) (x : List ℕ) (stop : Stop) → a.pending ≡ [] → Stopped a b x stop → AppendsPrefix a.written b.written x
 stopped_prefix a b x stop none p = subst (AppendsPrefix a.written b.written) (ap (λ l. l ++ x) none) p.prefix
 
 pub sends_gains : {T : Type 0} (a b : Page) (x : List ℕ) (r : Result T Stop) → a.pending ≡ [] → Sends a b x r → RunGains r x a.written b.written

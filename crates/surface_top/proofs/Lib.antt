@@ -9,6 +9,8 @@ mod Endings
 mod Firing
 mod Sampling
 mod Showing
+mod SurfaceLines
+mod SeedLines
 mod Progressing
 mod Written
 mod CutTexts

@@ -40,7 +40,7 @@ ends_wanting true limit text old new f n g = record { is_of = tt; gains = g; wri
 
 -- a run text has a last line
 
-behind_some : (x y : List ℕ) → y ≢ [] → x ++ y ≢ []
+pub behind_some : (x y : List ℕ) → y ≢ [] → x ++ y ≢ []
 behind_some [] y h = h
 behind_some (c ∷ x) y h = λ e. cc
 

@@ -7,7 +7,7 @@ use Rattle.surf_outside.specs.Known.{AppendsPrefix}
 use Rattle.surf_outside.proofs.LawLemmas.{appends_more, prefix_more, prefix_longer}
 use Rattle.surface_top.specs.declared.pages.Stop.{Stop}
 use Rattle.surface_top.specs.declared.pages.Stop.TheVariants as stops
-use Rattle.surface_top.specs.Pages.{Page, Wrote, Stopped, Sent, StopsWith, Sends, IsFailure}
+use Rattle.surface_top.specs.Pages.{Page, Wrote, Stopped, Puts, Sent, StopsWith, Sends, IsFailure}
 
 pub appends_none : (a : Option (List ℕ)) → Appends a a []
 appends_none None = tt
@@ -40,6 +40,10 @@ stopped_after a b c x y stop p q = record {
   later = omega (arith, p.later, q.later);
   cause = failure_before stop a.faults b.faults c.faults p.later q.cause;
 }
+
+pub puts_after : {T : Type 0} (a b c : Page) (x y : List ℕ) (r : Result T Stop) → Wrote a b x → Puts b c y r → Puts a c (x ++ y) r
+puts_after a b c x y (Ok v) p q = wrote_more a b c x y p q
+puts_after a b c x y (Err stop) p q = stopped_after a b c x y stop p q
 
 -- a failure within a text is one within a longer text
 pub stopped_longer : (a b : Page) (x y : List ℕ) (stop : Stop) → Stopped a b x stop → Stopped a b (x ++ y) stop

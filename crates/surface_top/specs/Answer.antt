@@ -12,9 +12,12 @@ use Rattle.circuit_text.specs.Values.{input_count}
 use Rattle.gate_layout.specs.Layout.{site_count, layout}
 use Rattle.crn_compile.specs.Compiled.{compiled_manifest}
 use Rattle.workload.specs.Generated.{generated_manifest}
+use Rattle.ensemble.specs.declared.outcome.EnsembleSettings.{EnsembleSettings}
+use Rattle.ensemble.specs.Outcomes.{outcomes}
+use Rattle.ensemble.specs.Texts.{ensemble_text}
 use Rattle.surface_words.specs.declared.commands.Program.{Program}
 use Rattle.surface_words.specs.declared.words.Words.{Words}
-use Rattle.surface_words.specs.declared.words.Words.TheVariants.{Check, Print, Run, Compile, Value, Gen, Stress}
+use Rattle.surface_words.specs.declared.words.Words.TheVariants.{Check, Print, Run, Compile, Value, Gen, Stress, Ensemble}
 use Rattle.surface_words.specs.FirstWrong.{first_wrong}
 use Rattle.surface_words.specs.Reading.{reading, reads}
 use Rattle.surface_top.specs.Checks.{check_text}
@@ -49,6 +52,22 @@ abbrev pub run_answer : Scene → Manifest → Answer
 run_answer s m =
     if nat_lt s.limit (length (events_of s (first_surface m.cells))) then EventLimit s.limit (run_text s (first_surface m.cells))
     else Text (run_text s (first_surface m.cells))
+
+-- an ensemble
+
+-- what is asked of the seeds; a duration that the words give stands in place of the manifest's
+abbrev pub settings_of : ℕ → ℕ → ℕ → Option ℕ → ℕ → Manifest → EnsembleSettings
+settings_of workers seeds first until limit m = record {
+  first = first;
+  seeds = seeds;
+  until = unwrap_or until m.until;
+  limit = limit;
+  workers = workers;
+}
+
+-- the text of the outcomes of the seeds. A run with more events than the limit is said in it, and is no limit of the call.
+abbrev pub ensemble_answer : EnsembleSettings → Manifest → Answer
+ensemble_answer s m = Text (ensemble_text m.names (outcomes m s))
 
 abbrev pub by_manifest : (Manifest → Answer) → Result Manifest ManifestFault → Answer
 by_manifest f (Ok m) = f m
@@ -97,6 +116,8 @@ answer_within (Compile inputs) words bytes = by_circuit (compile_answer (inputs_
 answer_within (Value inputs) words bytes = by_circuit (value_answer (inputs_in inputs words)) (circuit_in bytes)
 answer_within (Gen number) words bytes = gen_answer number
 answer_within (Stress workers number) words bytes = stress_answer number (generated_manifest number)
+answer_within (Ensemble workers seeds first until limit) words bytes =
+    by_manifest (λ m. ensemble_answer (settings_of workers seeds first until limit m) m) (manifest_of bytes)
 
 -- a command that reads takes at most 67,108,864 bytes
 abbrev pub is_too_long : Words → List ℕ → Bool

@@ -4,6 +4,7 @@ use Rattle.surf_outside.specs.Causes.{Rose}
 use Rattle.surf_kinds.specs.declared.status.Status.{Status}
 use Rattle.surf_kinds.specs.declared.status.Status.TheVariants as status
 use Rattle.surface_words.specs.declared.words.Words.{Words}
+use Rattle.surface_words.specs.Reading.{IsEnsembleInRange}
 use Rattle.manifest_read.specs.declared.manifest.Manifest.{Manifest}
 use Rattle.manifest_read.specs.declared.fault.ManifestFault.{ManifestFault}
 use Rattle.manifest_write.specs.Canon.{canonical_text}
@@ -18,7 +19,7 @@ use Rattle.surface_top.specs.declared.pages.Stop.{Stop}
 use Rattle.surface_top.specs.declared.pages.Stop.TheVariants as stop
 use Rattle.surface_top.specs.declared.ending.Ending.{Ending}
 use Rattle.surface_top.specs.declared.ending.Ending.TheVariants as ending
-use Rattle.surface_top.specs.Answer.{Answer, WrongWord, TooLong, BadManifest, BadCircuit, WrongInputs, TooManySites, EventLimit, Text, run_answer, scene_of, compile_answer, value_answer}
+use Rattle.surface_top.specs.Answer.{Answer, WrongWord, TooLong, BadManifest, BadCircuit, WrongInputs, TooManySites, EventLimit, Text, run_answer, scene_of, settings_of, ensemble_answer, compile_answer, value_answer}
 use Rattle.surface_top.specs.Checks.{check_text}
 use Rattle.surface_top.specs.Outcome.{own_status, HasText, OutGains}
 
@@ -81,6 +82,7 @@ abbrev pub manifest_answer : ManifestJob → Manifest → Answer
 manifest_answer job.Check m = Text (check_text m)
 manifest_answer job.Print m = Text (canonical_text m)
 manifest_answer (job.Run options) m = run_answer (scene_of options.seed options.until options.samples options.limit m) m
+manifest_answer (job.Ensemble options) m = ensemble_answer (settings_of options.workers options.seeds options.first options.until options.limit m) m
 
 -- what is done with a circuit and a word with its inputs, as an answer
 abbrev pub circuit_answer : CircuitJob → List ℕ → NetList → Answer
@@ -97,6 +99,7 @@ abbrev pub IsWithin : ManifestJob → Type 0
 IsWithin job.Check = ⊤
 IsWithin job.Print = ⊤
 IsWithin (job.Run options) = HasBounds options
+IsWithin (job.Ensemble options) = IsEnsembleInRange options.workers options.seeds options.until options.limit
 
 -- the ending that stands for a text without a manifest
 abbrev pub IsNoManifest : Ending → Result Manifest ManifestFault → Type 0
@@ -121,3 +124,10 @@ run_ending limit (Ok x) = ending.Done
 run_ending limit (Err stop.Limit) = ending.EventLimit limit
 run_ending limit (Err stop.Write) = ending.WriteFault
 run_ending limit (Err stop.Memory) = ending.Memory
+
+-- how it ends after a text that has no limit
+abbrev pub write_ending : {T : Type 0} → Result T Stop → Ending
+write_ending (Ok x) = ending.Done
+write_ending (Err stop.Limit) = ending.Memory
+write_ending (Err stop.Write) = ending.WriteFault
+write_ending (Err stop.Memory) = ending.Memory

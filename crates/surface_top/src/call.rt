@@ -14,6 +14,7 @@ ghost use Rattle.surface_top.specs.Outcome.{own_status, Gains, IsOutcome, source
 
 use crate::answers::{check, compile, generate, print, value};
 use crate::ending::Ending;
+use crate::ensembles::{EnsembleOptions, ensemble_manifest};
 use crate::message::message_of;
 use crate::run::{RunOptions, run_manifest};
 use crate::stress::stress;
@@ -72,10 +73,42 @@ pub(crate) enum ManifestJob {
     Check,
     Print,
     Run(RunOptions),
+    Ensemble(EnsembleOptions),
+}
+
+/// A run with these options.
+fn run_job(seed: Option<u64>, until: Option<u64>, samples: u64, limit: u64) -> ManifestJob
+    ensures { result ≡ ManifestJob.Run (record { seed = seed; until = until; samples = samples; limit = limit }) }
+{
+    ManifestJob::Run(RunOptions {
+        seed,
+        until,
+        samples,
+        limit,
+    })
+}
+
+/// An ensemble with these options.
+fn ensemble_job(workers: u64, seeds: u64, first: u64, until: Option<u64>, limit: u64) -> ManifestJob
+    ensures { result ≡ ManifestJob.Ensemble (record { workers = workers; seeds = seeds; first = first; until = until; limit = limit }) }
+{
+    ManifestJob::Ensemble(EnsembleOptions {
+        workers,
+        seeds,
+        first,
+        until,
+        limit,
+    })
 }
 
 /// Reads a manifest and writes what the job makes of it.
-fn answer_manifest<O: Sink>(alloc: Global, text: &[u8], job: ManifestJob, out: &mut O) -> Ending
+fn answer_manifest<R: Threads + Sync, O: Sink>(
+    rt: &R,
+    alloc: Global,
+    text: &[u8],
+    job: ManifestJob,
+    out: &mut O,
+) -> Ending
     requires size { length text.now ≤ 67108864 }
     requires within { IsWithin job }
     ensures { Answered (by_manifest (manifest_answer job) (manifest_of text.now)) result (O.written out.old) (O.written out.new) (O.faults out.old) (O.faults out.new) }
@@ -88,6 +121,7 @@ fn answer_manifest<O: Sink>(alloc: Global, text: &[u8], job: ManifestJob, out: &
         ManifestJob::Check => check(alloc, &manifest, out),
         ManifestJob::Print => print(alloc, &manifest, out),
         ManifestJob::Run(options) => run_manifest(alloc, manifest, options, out),
+        ManifestJob::Ensemble(options) => ensemble_manifest(rt, alloc, &manifest, options, out),
     }
 }
 
@@ -121,7 +155,8 @@ fn answer_circuit<O: Sink>(
 
 /// Does what the words say with the text that was read, and writes what that gives. For a command that reads nothing the
 /// text has no effect.
-fn answer_text<O: Sink>(
+fn answer_text<R: Threads + Sync, O: Sink>(
+    rt: &R,
     alloc: Global,
     words: &[String],
     command: Words,
@@ -133,8 +168,8 @@ fn answer_text<O: Sink>(
     ensures { Answered (answer_within command (map string_bytes words.now) text.now) result (O.written out.old) (O.written out.new) (O.faults out.old) (O.faults out.new) }
 {
     match command {
-        Words::Check => answer_manifest(alloc, text, ManifestJob::Check, out),
-        Words::Print => answer_manifest(alloc, text, ManifestJob::Print, out),
+        Words::Check => answer_manifest(rt, alloc, text, ManifestJob::Check, out),
+        Words::Print => answer_manifest(rt, alloc, text, ManifestJob::Print, out),
         Words::Run {
             seed,
             until,
@@ -142,13 +177,18 @@ fn answer_text<O: Sink>(
             limit,
             ..
         } => {
-            let options = RunOptions {
-                seed,
-                until,
-                samples,
-                limit,
-            };
-            answer_manifest(alloc, text, ManifestJob::Run(options), out)
+            let job = run_job(seed, until, samples, limit);
+            answer_manifest(rt, alloc, text, job, out)
+        }
+        Words::Ensemble {
+            workers,
+            seeds,
+            first,
+            until,
+            limit,
+        } => {
+            let job = ensemble_job(workers, seeds, first, until, limit);
+            answer_manifest(rt, alloc, text, job, out)
         }
         Words::Compile { inputs: index } => {
             answer_circuit(alloc, text, CircuitJob::Compile, inputs(words, index), out)
@@ -162,7 +202,8 @@ fn answer_text<O: Sink>(
 }
 
 /// Reads the source to its end and writes the answer.
-fn answer_source<S: Source, O: Sink>(
+fn answer_source<R: Threads + Sync, S: Source, O: Sink>(
+    rt: &R,
     alloc: Global,
     words: &[String],
     command: Words,
@@ -183,11 +224,17 @@ fn answer_source<S: Source, O: Sink>(
         Err(SlurpError::TooLong) => return Ending::TooLong,
         Err(SlurpError::Memory) => return Ending::Memory,
     };
-    answer_text(alloc, words, command, &text, out)
+    answer_text(rt, alloc, words, command, &text, out)
 }
 
 /// Does all that the words ask for but the message. Wrong words come first, and then nothing is read or written.
-fn work<S: Source, O: Sink>(alloc: Global, words: &[String], source: &mut S, out: &mut O) -> Ending
+fn work<R: Threads + Sync, S: Source, O: Sink>(
+    rt: &R,
+    alloc: Global,
+    words: &[String],
+    source: &mut S,
+    out: &mut O,
+) -> Ending
     ensures ends { EndsAs (specified_answer Surface (map string_bytes words.now)) result (S.unread source.old) (O.written out.old) (O.written out.new) }
     ensures words { IsWordsAnswer result (reading Surface (map string_bytes words.now)) }
     ensures untouched { reads_source Surface (map string_bytes words.now) ≡ false → source.new ≡ source.old }
@@ -198,8 +245,8 @@ fn work<S: Source, O: Sink>(alloc: Global, words: &[String], source: &mut S, out
     ensures write { result ≡ Ending.WriteFault → Rose (O.faults out.old) (O.faults out.new) }
 {
     match Words::read(words, Program::Surface) {
-        Ok(command) if command.reads() => answer_source(alloc, words, command, source, out),
-        Ok(command) => answer_text(alloc, words, command, &[], out),
+        Ok(command) if command.reads() => answer_source(rt, alloc, words, command, source, out),
+        Ok(command) => answer_text(rt, alloc, words, command, &[], out),
         Err(index) => Ending::WrongWord(index as u64),
     }
 }
@@ -213,16 +260,17 @@ fn put_message<N: Sink>(notes: &mut N, line: &[u8])
 
 /// The program `surface`: does what the words say with the text that the source holds, and writes to `out`.
 ///
-/// The commands `check`, `print` and `run` read a manifest, `compile` and `value` read a circuit, and `gen` and `stress`
-/// read nothing. Where the words are wrong nothing is read. Else the source is read to its end, of at most 67,108,864
-/// bytes, and then the first fault of the text decides; behind it, for `compile`, the size of the circuit's layout.
+/// The commands `check`, `print`, `run` and `ensemble` read a manifest, `compile` and `value` read a circuit, and `gen`
+/// and `stress` read nothing. Where the words are wrong nothing is read. Else the source is read to its end, of at most
+/// 67,108,864 bytes, and then the first fault of the text decides; behind it, for `compile`, the size of the circuit's
+/// layout.
 ///
 /// - `Done`: the whole text of the answer was written to `out`.
 /// - `Words`: exactly where the words aren't accepted.
 /// - `Faulty`: the text has a fault, or the word with the inputs isn't as long as the circuit has inputs.
 /// - `Limit`: the source holds too many bytes, a count of the text is above its limit, the layout of a circuit has too
-///   many sites, or a run has more events than its limit; then `run` has written the text of the events up to the
-///   limit, and `stress` nothing.
+///   many sites, or the run of `run` or `stress` has more events than its limit; then `run` has written the text of the
+///   events up to the limit, and `stress` nothing. `ensemble` says of each run whether it has, and is done.
 /// - `ReadFault` and `WriteFault`: the source or `out` had a fault. With `WriteFault` a prefix of the text was written.
 /// - `Memory`: want of memory, which may come in place of every other status. A prefix of the text was written.
 ///
@@ -232,7 +280,7 @@ fn put_message<N: Sink>(notes: &mut N, line: &[u8])
 /// What names the answer is said of some bytes, which are those of the source where it tells them. Today no command has
 /// lines that go to `notes` with `Done`.
 pub fn surface_main<R: Threads + Sync, S: Source, O: Sink, N: Sink, G: Gate>(
-    _rt: &R,
+    rt: &R,
     alloc: Global,
     words: &[String],
     source: &mut S,
@@ -255,7 +303,7 @@ pub fn surface_main<R: Threads + Sync, S: Source, O: Sink, N: Sink, G: Gate>(
     ensures read { result ≡ Status.ReadFault → Rose (S.faults source.old) (S.faults source.new) }
     ensures write { result ≡ Status.WriteFault → Rose (O.faults out.old) (O.faults out.new) }
 {
-    let ending = work(alloc, words, source, out);
+    let ending = work(rt, alloc, words, source, out);
     match message_of(alloc, ending) {
         Ok(line) => {
             put_message(notes, line.as_bytes());

@@ -1,23 +1,26 @@
 //! The program `surface` as a library: from words and a source to what is written.
 //!
 //! [`surface_main`] does what the words say. What it writes is defined in `specs/Answer.antt`: of a manifest its
-//! sizes, its canonical text or its run text (`specs/RunText.antt`), of a circuit the values of its outputs or the
-//! manifest that it is compiled to, of a number the generated manifest or how a run of it ends. A run fires the next
-//! event of the surface, one after the other, and hands the events to the one writer of run texts.
+//! sizes, its canonical text, its run text (`specs/RunText.antt`) or what its runs with many seeds come to, of a circuit
+//! the values of its outputs or the manifest that it is compiled to, of a number the generated manifest or how a run of
+//! it ends. A run fires the next event of the surface, one after the other, and hands the events to the one writer of
+//! run texts.
 //!
 //! The crate stands on the readers of words, manifests and circuits, on the compiler of circuits and the generator of
-//! manifests, on the engine, and on the writers of texts.
+//! manifests, on the engine, on the ensemble, and on the writers of texts.
 #![tactic(auto)]
 
 mod answers;
 mod buffer;
 mod call;
 mod ending;
+mod ensembles;
 pub mod laws;
 mod message;
 mod pages;
 mod run;
 mod stress;
+mod surfaces;
 mod ticks;
 mod writer;
 

@@ -11,6 +11,7 @@ ghost use Rattle.surface_top.specs.Writing.{scene_of, reached_of, Begins, IsRead
 
 use crate::buffer::Buffer;
 use crate::pages::{Stop, flush, flush_much};
+use crate::surfaces::put_lines;
 use crate::ticks::Ticks;
 use ordered_commit::{EventLimit, Tally};
 use plan::Plan;
@@ -37,16 +38,17 @@ pub(crate) struct Task<'a> {
     pub(crate) span: Span,
 }
 
-/// How many bytes the names in the rows of a surface may have for the surface to be held in memory.
-const LONG: usize = 33_554_432;
+/// How many bytes the names in a line of a surface may have for the line to be held in memory.
+const LONG: usize = 8_388_608;
 
-/// Whether the rows of a surface may have more bytes, since some name is long.
+/// Whether a line of a surface may have more bytes, since some name is long.
 fn is_long(names: &Names, surface: &Surface) -> bool {
     let mut longest = 0;
     for id in 0..names.count() {
         longest = names.name(SpeciesId(id as u16)).len().max(longest);
     }
-    longest.saturating_mul(surface.cells().len()) > LONG
+    let most = names.count().max(surface.lattice().cols());
+    longest.saturating_mul(most as usize) > LONG
 }
 
 /// Writes the text of a run from its events, which are handed to it in the order of the history, in lists of any
@@ -152,7 +154,7 @@ impl Writer {
         Ok(())
     }
 
-    /// Writes the surface as it stands, past the buffer where its text may be long.
+    /// Writes the surface as it stands, line by line, or past the buffer where a line may be long.
     fn put_surface<O: Sink>(&mut self, task: &Task, out: &mut O, tick: u64) -> Result<(), Stop>
         requires lattice { self.old.surface.lattice ≡ task.now.plan.now.lattice }
         requires species_count { self.old.surface.species_count ≡ length task.now.names.now }
@@ -163,20 +165,18 @@ impl Writer {
             return self.send_surface(task, out, tick);
         }
         let lattice = task.plan.lattice();
-        match write_surface(
+        put_lines(
+            out,
             &mut self.buffer,
             task.names,
             lattice,
             &self.surface,
             tick,
             self.events,
-        ) {
-            Ok(()) => flush_much(out, &mut self.buffer),
-            Err(Failed) => Err(Stop::Memory),
-        }
+        )
     }
 
-    /// Sends what waits and then the surface as it stands, name by name, so that its text is never held in memory.
+    /// Sends what waits and then the surface as it stands, name by name, so that no line of it is held in memory.
     fn send_surface<O: Sink>(&mut self, task: &Task, out: &mut O, tick: u64) -> Result<(), Stop>
         requires lattice { self.old.surface.lattice ≡ task.now.plan.now.lattice }
         requires species_count { self.old.surface.species_count ≡ length task.now.names.now }

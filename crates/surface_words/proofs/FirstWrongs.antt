@@ -7,7 +7,7 @@ use Rattle.surface_words.specs.declared.commands.Program.{Program}
 use Rattle.surface_words.specs.declared.commands.Program.TheVariants.{Surface, Watch}
 use Rattle.surface_words.specs.declared.commands.Command.{Command}
 use Rattle.surface_words.specs.declared.options.OptionName.{OptionName}
-use Rattle.surface_words.specs.declared.options.OptionName.TheVariants.{Workers, Seed, Until, Samples, Limit, Inputs, Number}
+use Rattle.surface_words.specs.declared.options.OptionName.TheVariants.{Workers, Seed, Until, Samples, Limit, Inputs, Number, Seeds, First}
 use Rattle.surface_words.specs.Commands.{command_of, is_allowed}
 use Rattle.surface_words.specs.Accepted.{is_accepted_after, is_accepted}
 use Rattle.surface_words.specs.FirstWrong.{CanGoOn, IsDeadEnd, IsFirstWrong, next_option, wrong_from, first_wrong}
@@ -42,6 +42,8 @@ example_allowed Samples = refl
 example_allowed Limit = refl
 example_allowed Inputs = refl
 example_allowed Number = refl
+example_allowed Seeds = refl
+example_allowed First = refl
 
 none_fits : (command : Command) (before : List OptionName) (name : List ℕ) (words : List (List ℕ)) → next_option command before name ≡ None → fits command before (name ∷ words) ≡ false
 none_fits command before name [] e = refl

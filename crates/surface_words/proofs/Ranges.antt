@@ -8,9 +8,9 @@ use Rattle.surf_text.specs.declared.numbers.Dec.{Dec}
 use Rattle.rates.specs.Durations.{ticks_of, duration_of}
 use Rattle.surface_words.specs.declared.commands.Program.{Program}
 use Rattle.surface_words.specs.declared.commands.Command.{Command}
-use Rattle.surface_words.specs.declared.commands.Command.TheVariants.{Check, Print, Run, Compile, Value, Gen, Stress}
+use Rattle.surface_words.specs.declared.commands.Command.TheVariants.{Check, Print, Run, Compile, Value, Gen, Stress, Ensemble}
 use Rattle.surface_words.specs.declared.options.OptionName.{OptionName}
-use Rattle.surface_words.specs.declared.options.OptionName.TheVariants.{Workers, Until, Samples, Limit, Inputs, Number}
+use Rattle.surface_words.specs.declared.options.OptionName.TheVariants.{Workers, Until, Samples, Limit, Inputs, Number, Seeds}
 use Rattle.surface_words.specs.declared.words.Words.{Words}
 use Rattle.surface_words.specs.Commands.{command_of, option_of, same_option, whole_in, number_of}
 use Rattle.surface_words.specs.Accepted.{Pair, pairs_of, with_pair, is_accepted}
@@ -96,13 +96,19 @@ number_within pairs =
     let within = with_default (IsWithin 0 1000000000) (number_given Number pairs) 0 (given_within Number (IsWithin 0 1000000000) (whole_within 0 1000000000) pairs) (lit≤ tt, lit≤ tt) in
     within.1
 
+workers_within : (pairs : List Pair) → IsWithin 1 64 (unwrap_or (number_given Workers pairs) 1)
+workers_within pairs = with_default (IsWithin 1 64) (number_given Workers pairs) 1 (given_within Workers (IsWithin 1 64) (whole_within 1 64) pairs) (lit≤ tt, lit≤ tt)
+
+limit_within : (pairs : List Pair) → IsWithin 0 10000000 (unwrap_or (number_given Limit pairs) 1000000)
+limit_within pairs = with_default (IsWithin 0 10000000) (number_given Limit pairs) 1000000 (given_within Limit (IsWithin 0 10000000) (whole_within 0 10000000) pairs) (lit≤ tt, lit≤ tt)
+
 words_within : (command : Command) (pairs : List Pair) (count : ℕ) → count ≡ 1 + 2 * length pairs → IsInRange count (words_of command pairs)
 words_within Check pairs count e = tt
 words_within Print pairs count e = tt
 words_within Run pairs count e =
-    let workers = with_default (IsWithin 1 64) (number_given Workers pairs) 1 (given_within Workers (IsWithin 1 64) (whole_within 1 64) pairs) (lit≤ tt, lit≤ tt) in
+    let workers = workers_within pairs in
     let samples = with_default (IsWithin 0 10000) (number_given Samples pairs) 1 (given_within Samples (IsWithin 0 10000) (whole_within 0 10000) pairs) (lit≤ tt, lit≤ tt) in
-    let limit = with_default (IsWithin 0 10000000) (number_given Limit pairs) 1000000 (given_within Limit (IsWithin 0 10000000) (whole_within 0 10000000) pairs) (lit≤ tt, lit≤ tt) in
+    let limit = limit_within pairs in
     record {
       workers_at_least = workers.0;
       workers_at_most = workers.1;
@@ -114,8 +120,20 @@ words_within Compile pairs count e = inputs_within (index_given Inputs 2 pairs) 
 words_within Value pairs count e = inputs_within (index_given Inputs 2 pairs) pairs count e (index_below Inputs pairs 2)
 words_within Gen pairs count e = number_within pairs
 words_within Stress pairs count e =
-    let workers = with_default (IsWithin 1 64) (number_given Workers pairs) 1 (given_within Workers (IsWithin 1 64) (whole_within 1 64) pairs) (lit≤ tt, lit≤ tt) in
+    let workers = workers_within pairs in
     record { workers_at_least = workers.0; workers_at_most = workers.1; number_at_most = number_within pairs }
+words_within Ensemble pairs count e =
+    let workers = workers_within pairs in
+    let seeds = with_default (IsWithin 1 1000) (number_given Seeds pairs) 10 (given_within Seeds (IsWithin 1 1000) (whole_within 1 1000) pairs) (lit≤ tt, lit≤ tt) in
+    let limit = limit_within pairs in
+    record {
+      workers_at_least = workers.0;
+      workers_at_most = workers.1;
+      seeds_at_least = seeds.0;
+      seeds_at_most = seeds.1;
+      until_at_most = given_within Until (λ ticks. ticks ≤ 10 ^ 15) duration_within pairs;
+      limit_at_most = limit.1;
+    }
 
 pub reading_within : (program : Program) (words : List (List ℕ)) (w : Words) → reading program words ≡ Some w → IsInRange (length words) w
 reading_within program words w h = by (is_accepted program words) h

@@ -4,7 +4,7 @@ use Rattle.std.specs.List.{list_all}
 use Rattle.std.specs.Option.{option_map, option_or}
 use Rattle.surface_words.specs.declared.given.Given.{Given}
 use Rattle.surface_words.specs.declared.options.OptionName.{OptionName}
-use Rattle.surface_words.specs.declared.options.OptionName.TheVariants.{Workers, Seed, Until, Samples, Limit, Inputs, Number}
+use Rattle.surface_words.specs.declared.options.OptionName.TheVariants.{Workers, Seed, Until, Samples, Limit, Inputs, Number, Seeds, First}
 use Rattle.surface_words.specs.Commands.{same_option, number_of, is_bit, is_allowed}
 use Rattle.surface_words.specs.Accepted.{Pair}
 use Rattle.surface_words.specs.Reading.{number_given, index_given}
@@ -20,6 +20,8 @@ merged given at pairs = record {
   limit = option_or given.limit (number_given Limit pairs);
   inputs = option_or given.inputs (index_given Inputs at pairs);
   number = option_or given.number (number_given Number pairs);
+  seeds = option_or given.seeds (number_given Seeds pairs);
+  first = option_or given.first (number_given First pairs);
 }
 
 abbrev HasMore : Given → OptionName → Given → OptionName → Type 0
@@ -81,6 +83,18 @@ step_number old value index n e = record {
   same_rest = λ h pairs. let none = none_where old.number h in rw (none, e) refl;
 }
 
+step_seeds : (old : Given) (value : List ℕ) (index n : ℕ) → number_of Seeds value ≡ Some n → IsStep old Seeds value index (record old { seeds = Some n })
+step_seeds old value index n e = record {
+  has_more = λ other. elim other as (HasMore old Seeds (record old { seeds = Some n })) [ Seeds ↦ refl | _ ↦ refl ];
+  same_rest = λ h pairs. let none = none_where old.seeds h in rw (none, e) refl;
+}
+
+step_first : (old : Given) (value : List ℕ) (index n : ℕ) → number_of First value ≡ Some n → IsStep old First value index (record old { first = Some n })
+step_first old value index n e = record {
+  has_more = λ other. elim other as (HasMore old First (record old { first = Some n })) [ First ↦ refl | _ ↦ refl ];
+  same_rest = λ h pairs. let none = none_where old.first h in rw (none, e) refl;
+}
+
 by_test : (b : Bool) (made new : Given) → cond b (Some made) None ≡ Some new → made ≡ new
 by_test true made new h = cc
 by_test false made new h = absurd (cc)
@@ -93,6 +107,8 @@ step_is old Samples value index new h = by_number (λ n. record old { samples = 
 step_is old Limit value index new h = by_number (λ n. record old { limit = Some n }) (number_of Limit value) new (IsStep old Limit value index) (step_limit old value index) h
 step_is old Inputs value index new h = subst (IsStep old Inputs value index) (by_test (list_all is_bit value) (record old { inputs = Some index }) new h) (step_inputs old value index)
 step_is old Number value index new h = by_number (λ n. record old { number = Some n }) (number_of Number value) new (IsStep old Number value index) (step_number old value index) h
+step_is old Seeds value index new h = by_number (λ n. record old { seeds = Some n }) (number_of Seeds value) new (IsStep old Seeds value index) (step_seeds old value index) h
+step_is old First value index new h = by_number (λ n. record old { first = Some n }) (number_of First value) new (IsStep old First value index) (step_first old value index) h
 
 is_some_map : (f : ℕ → Given) (number : Option ℕ) → is_some (option_map f number) ≡ is_some number
 is_some_map f None = refl
@@ -111,3 +127,5 @@ allowed_is old Samples value index = is_some_map (λ n. record old { samples = S
 allowed_is old Limit value index = is_some_map (λ n. record old { limit = Some n }) (number_of Limit value)
 allowed_is old Inputs value index = is_some_test (list_all is_bit value) (record old { inputs = Some index })
 allowed_is old Number value index = is_some_map (λ n. record old { number = Some n }) (number_of Number value)
+allowed_is old Seeds value index = is_some_map (λ n. record old { seeds = Some n }) (number_of Seeds value)
+allowed_is old First value index = is_some_map (λ n. record old { first = Some n }) (number_of First value)

@@ -8,12 +8,12 @@ use Rattle.rates.specs.Durations.{duration_of}
 use Rattle.surface_words.specs.declared.commands.Program.{Program}
 use Rattle.surface_words.specs.declared.commands.Program.TheVariants as program
 use Rattle.surface_words.specs.declared.commands.Command.{Command}
-use Rattle.surface_words.specs.declared.commands.Command.TheVariants.{Check, Print, Run, Compile, Value, Gen, Stress}
+use Rattle.surface_words.specs.declared.commands.Command.TheVariants.{Check, Print, Run, Compile, Value, Gen, Stress, Ensemble}
 use Rattle.surface_words.specs.declared.options.OptionName.{OptionName}
-use Rattle.surface_words.specs.declared.options.OptionName.TheVariants.{Workers, Seed, Until, Samples, Limit, Inputs, Number}
+use Rattle.surface_words.specs.declared.options.OptionName.TheVariants.{Workers, Seed, Until, Samples, Limit, Inputs, Number, Seeds, First}
 
 abbrev pub commands_of : Program → List Command
-commands_of program.Surface = Check ∷ Print ∷ Run ∷ Compile ∷ Value ∷ Gen ∷ Stress ∷ []
+commands_of program.Surface = Check ∷ Print ∷ Run ∷ Compile ∷ Value ∷ Gen ∷ Stress ∷ Ensemble ∷ []
 commands_of program.Watch = []
 
 abbrev pub command_text : Command → List ℕ
@@ -24,6 +24,7 @@ command_text Compile = codes "compile"
 command_text Value = codes "value"
 command_text Gen = codes "gen"
 command_text Stress = codes "stress"
+command_text Ensemble = codes "ensemble"
 
 -- the command of a program that a word names
 abbrev pub command_of : Program → List ℕ → Option Command
@@ -37,9 +38,11 @@ option_text Samples = codes "--samples"
 option_text Limit = codes "--limit"
 option_text Inputs = codes "--inputs"
 option_text Number = codes "--number"
+option_text Seeds = codes "--seeds"
+option_text First = codes "--first"
 
 abbrev pub all_options : List OptionName
-all_options = Workers ∷ Seed ∷ Until ∷ Samples ∷ Limit ∷ Inputs ∷ Number ∷ []
+all_options = Workers ∷ Seed ∷ Until ∷ Samples ∷ Limit ∷ Inputs ∷ Number ∷ Seeds ∷ First ∷ []
 
 -- the option that a word names
 abbrev pub option_of : List ℕ → Option OptionName
@@ -59,6 +62,7 @@ options_of Compile = Inputs ∷ []
 options_of Value = Inputs ∷ []
 options_of Gen = Number ∷ []
 options_of Stress = Workers ∷ Number ∷ []
+options_of Ensemble = Workers ∷ Until ∷ Limit ∷ Seeds ∷ First ∷ []
 
 abbrev pub has_option : Command → OptionName → Bool
 has_option command option = is_among option (options_of command)
@@ -76,6 +80,8 @@ number_of Samples value = whole_in 0 10000 value
 number_of Limit value = whole_in 0 10000000 value
 number_of Inputs value = None
 number_of Number value = whole_in 0 1000000000 value
+number_of Seeds value = whole_in 1 1000 value
+number_of First value = u64_of value
 
 -- 0 or 1
 abbrev pub is_bit : ℕ → Bool

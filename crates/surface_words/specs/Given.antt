@@ -3,10 +3,10 @@ use Rattle.std.specs.Prelude.{ℕ, Bool, not, ◌&&◌, List, Option, Some, None
 use Rattle.std.specs.List.{list_all}
 use Rattle.std.specs.Option.{option_map, option_and_then}
 use Rattle.surface_words.specs.declared.commands.Command.{Command}
-use Rattle.surface_words.specs.declared.commands.Command.TheVariants.{Check, Print, Run, Compile, Value, Gen, Stress}
+use Rattle.surface_words.specs.declared.commands.Command.TheVariants.{Check, Print, Run, Compile, Value, Gen, Stress, Ensemble}
 use Rattle.surface_words.specs.declared.given.Given.{Given}
 use Rattle.surface_words.specs.declared.options.OptionName.{OptionName}
-use Rattle.surface_words.specs.declared.options.OptionName.TheVariants.{Workers, Seed, Until, Samples, Limit, Inputs, Number}
+use Rattle.surface_words.specs.declared.options.OptionName.TheVariants.{Workers, Seed, Until, Samples, Limit, Inputs, Number, Seeds, First}
 use Rattle.surface_words.specs.declared.words.Words.{Words}
 use Rattle.surface_words.specs.declared.words.Words.TheVariants as variant
 use Rattle.surface_words.specs.Commands.{option_of, has_option, number_of, is_bit}
@@ -14,7 +14,7 @@ use Rattle.surface_words.specs.Accepted.{Pair}
 use Rattle.surface_words.specs.Reading.{number_given, index_given}
 
 abbrev pub nothing : Given
-nothing = record { workers = None; seed = None; until = None; samples = None; limit = None; inputs = None; number = None }
+nothing = record { workers = None; seed = None; until = None; samples = None; limit = None; inputs = None; number = None; seeds = None; first = None }
 
 abbrev pub has : Given → OptionName → Bool
 has given Workers = is_some given.workers
@@ -24,6 +24,8 @@ has given Samples = is_some given.samples
 has given Limit = is_some given.limit
 has given Inputs = is_some given.inputs
 has given Number = is_some given.number
+has given Seeds = is_some given.seeds
+has given First = is_some given.first
 
 -- the option that a word names, if the command has it and it has no value yet
 abbrev pub free_option : Command → Given → List ℕ → Option OptionName
@@ -39,6 +41,8 @@ with_value given Samples value index = option_map (λ n. record given { samples 
 with_value given Limit value index = option_map (λ n. record given { limit = Some n }) (number_of Limit value)
 with_value given Inputs value index = if list_all is_bit value then Some (record given { inputs = Some index }) else None
 with_value given Number value index = option_map (λ n. record given { number = Some n }) (number_of Number value)
+with_value given Seeds value index = option_map (λ n. record given { seeds = Some n }) (number_of Seeds value)
+with_value given First value index = option_map (λ n. record given { first = Some n }) (number_of First value)
 
 -- what the command says with these values
 abbrev pub words_by : Command → Given → Words
@@ -49,6 +53,7 @@ words_by Compile given = variant.Compile given.inputs
 words_by Value given = variant.Value given.inputs
 words_by Gen given = variant.Gen (unwrap_or given.number 0)
 words_by Stress given = variant.Stress (unwrap_or given.workers 1) (unwrap_or given.number 0)
+words_by Ensemble given = variant.Ensemble (unwrap_or given.workers 1) (unwrap_or given.seeds 10) (unwrap_or given.first 0) given.until (unwrap_or given.limit 1000000)
 
 -- the values that pairs give, where the first pair's value has the index `at`
 abbrev pub given_by : ℕ → List Pair → Given
@@ -60,4 +65,6 @@ given_by at pairs = record {
   limit = number_given Limit pairs;
   inputs = index_given Inputs at pairs;
   number = number_given Number pairs;
+  seeds = number_given Seeds pairs;
+  first = number_given First pairs;
 }

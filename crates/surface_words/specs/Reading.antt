@@ -3,9 +3,9 @@ use Rattle.std.specs.Prelude.{ℕ, Bool, true, false, ◌+◌, ◌^◌, ◌<◌,
 use Rattle.std.specs.Option.{option_map, option_and_then}
 use Rattle.surface_words.specs.declared.commands.Program.{Program}
 use Rattle.surface_words.specs.declared.commands.Command.{Command}
-use Rattle.surface_words.specs.declared.commands.Command.TheVariants.{Check, Print, Run, Compile, Value, Gen, Stress}
+use Rattle.surface_words.specs.declared.commands.Command.TheVariants.{Check, Print, Run, Compile, Value, Gen, Stress, Ensemble}
 use Rattle.surface_words.specs.declared.options.OptionName.{OptionName}
-use Rattle.surface_words.specs.declared.options.OptionName.TheVariants.{Workers, Seed, Until, Samples, Limit, Inputs, Number}
+use Rattle.surface_words.specs.declared.options.OptionName.TheVariants.{Workers, Seed, Until, Samples, Limit, Inputs, Number, Seeds, First}
 use Rattle.surface_words.specs.declared.words.Words.{Words}
 use Rattle.surface_words.specs.declared.words.Words.TheVariants as variant
 use Rattle.surface_words.specs.Commands.{command_of, same_option, number_of}
@@ -39,6 +39,12 @@ words_of Compile pairs = variant.Compile (index_given Inputs 2 pairs)
 words_of Value pairs = variant.Value (index_given Inputs 2 pairs)
 words_of Gen pairs = variant.Gen (unwrap_or (number_given Number pairs) 0)
 words_of Stress pairs = variant.Stress (unwrap_or (number_given Workers pairs) 1) (unwrap_or (number_given Number pairs) 0)
+words_of Ensemble pairs = variant.Ensemble
+    (unwrap_or (number_given Workers pairs) 1)
+    (unwrap_or (number_given Seeds pairs) 10)
+    (unwrap_or (number_given First pairs) 0)
+    (number_given Until pairs)
+    (unwrap_or (number_given Limit pairs) 1000000)
 
 -- what a list of words spells, whether it is accepted or not
 abbrev pub spelled_words : Program → List (List ℕ) → Option Words
@@ -58,6 +64,7 @@ reads (variant.Compile inputs) = true
 reads (variant.Value inputs) = true
 reads (variant.Gen number) = false
 reads (variant.Stress workers number) = false
+reads (variant.Ensemble workers seeds first until limit) = true
 
 -- the bounds of a run
 pub record IsRunInRange (workers : ℕ) (until : Option ℕ) (samples limit : ℕ) : Type 0 where
@@ -73,6 +80,15 @@ pub record IsStressInRange (workers number : ℕ) : Type 0 where
   pub workers_at_most : workers ≤ 64
   pub number_at_most : number ≤ 1000000000
 
+-- the bounds of an ensemble
+pub record IsEnsembleInRange (workers seeds : ℕ) (until : Option ℕ) (limit : ℕ) : Type 0 where
+  pub workers_at_least : 1 ≤ workers
+  pub workers_at_most : workers ≤ 64
+  pub seeds_at_least : 1 ≤ seeds
+  pub seeds_at_most : seeds ≤ 1000
+  pub until_at_most : IfSome until (λ ticks. ticks ≤ 10 ^ 15)
+  pub limit_at_most : limit ≤ 10000000
+
 -- the bounds of what a list of so many words says
 abbrev pub IsInRange : ℕ → Words → Type 0
 IsInRange count variant.Check = Unit {0}
@@ -82,3 +98,4 @@ IsInRange count (variant.Compile inputs) = IfSome inputs (λ index. index < coun
 IsInRange count (variant.Value inputs) = IfSome inputs (λ index. index < count)
 IsInRange count (variant.Gen number) = number ≤ 1000000000
 IsInRange count (variant.Stress workers number) = IsStressInRange workers number
+IsInRange count (variant.Ensemble workers seeds first until limit) = IsEnsembleInRange workers seeds until limit

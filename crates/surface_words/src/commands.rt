@@ -21,6 +21,7 @@ pub(crate) enum Command {
     Value,
     Gen,
     Stress,
+    Ensemble,
 }
 
 impl Command {
@@ -37,6 +38,7 @@ impl Command {
                 "value" => Some(Command::Value),
                 "gen" => Some(Command::Gen),
                 "stress" => Some(Command::Stress),
+                "ensemble" => Some(Command::Ensemble),
                 _ => None,
             },
             Program::Watch => None,
@@ -54,11 +56,21 @@ impl Command {
                 | OptionName::Until
                 | OptionName::Samples
                 | OptionName::Limit => true,
-                OptionName::Inputs | OptionName::Number => false,
+                OptionName::Inputs | OptionName::Number | OptionName::Seeds | OptionName::First =>
+                    false,
             },
             Command::Compile | Command::Value => matches!(option, OptionName::Inputs),
             Command::Gen => matches!(option, OptionName::Number),
             Command::Stress => matches!(option, OptionName::Workers | OptionName::Number),
+            Command::Ensemble => match option {
+                OptionName::Workers
+                | OptionName::Until
+                | OptionName::Limit
+                | OptionName::Seeds
+                | OptionName::First => true,
+                OptionName::Seed | OptionName::Samples | OptionName::Inputs | OptionName::Number =>
+                    false,
+            },
         }
     }
 }

@@ -23,6 +23,8 @@ pub(crate) struct Given {
     /// The index of the word.
     pub(crate) inputs: Option<usize>,
     pub(crate) number: Option<u64>,
+    pub(crate) seeds: Option<u64>,
+    pub(crate) first: Option<u64>,
 }
 
 impl Given {
@@ -37,6 +39,8 @@ impl Given {
             limit: None,
             inputs: None,
             number: None,
+            seeds: None,
+            first: None,
         }
     }
 
@@ -51,6 +55,8 @@ impl Given {
             OptionName::Limit => self.limit.is_some(),
             OptionName::Inputs => self.inputs.is_some(),
             OptionName::Number => self.number.is_some(),
+            OptionName::Seeds => self.seeds.is_some(),
+            OptionName::First => self.first.is_some(),
         }
     }
 
@@ -72,6 +78,8 @@ impl Given {
                 given.inputs = Some(index);
             }
             OptionName::Number => given.number = Some(whole(value, 0, 1_000_000_000)?),
+            OptionName::Seeds => given.seeds = Some(whole(value, 1, 1_000)?),
+            OptionName::First => given.first = Some(read_u64(value)?),
         }
         Some(given)
     }

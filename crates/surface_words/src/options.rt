@@ -15,6 +15,8 @@ pub(crate) enum OptionName {
     Limit,
     Inputs,
     Number,
+    Seeds,
+    First,
 }
 
 impl OptionName {
@@ -30,6 +32,8 @@ impl OptionName {
             "--limit" => Some(OptionName::Limit),
             "--inputs" => Some(OptionName::Inputs),
             "--number" => Some(OptionName::Number),
+            "--seeds" => Some(OptionName::Seeds),
+            "--first" => Some(OptionName::First),
             _ => None,
         }
     }

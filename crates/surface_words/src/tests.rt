@@ -22,6 +22,16 @@ fn run(seed: Option<u64>, until: Option<u64>, samples: u64, limit: u64) -> Words
     }
 }
 
+fn ensemble(seeds: u64, first: u64, until: Option<u64>, limit: u64) -> Words {
+    Words::Ensemble {
+        workers: 1,
+        seeds,
+        first,
+        until,
+        limit,
+    }
+}
+
 #[test]
 fn accepted_words(rt: HostRuntime) -> Result<(), Fail> {
     for (line, words) in [
@@ -45,6 +55,11 @@ fn accepted_words(rt: HostRuntime) -> Result<(), Fail> {
         ("value --inputs 0110", Words::Value { inputs: Some(2) }),
         ("compile", Words::Compile { inputs: None }),
         ("compile --inputs 10", Words::Compile { inputs: Some(2) }),
+        ("ensemble", ensemble(10, 0, None, 1_000_000)),
+        (
+            "ensemble --first 18446744073709551615 --limit 7 --seeds 1000 --until 2",
+            ensemble(1_000, 18_446_744_073_709_551_615, Some(2_000_000), 7),
+        ),
     ] {
         assert_eq!(rt; read(rt.alloc(), line, Program::Surface)?, Ok(words));
         assert!(rt; words.reads());
@@ -115,6 +130,11 @@ fn the_first_wrong_word_is_named(rt: HostRuntime) -> Result<(), Fail> {
         ("gen --number 1000000001", 2),
         ("stress --workers 0", 2),
         ("stress --number 1 --seed 1", 3),
+        ("ensemble --seed 1", 1),
+        ("ensemble --seeds 0", 2),
+        ("ensemble --seeds 1001", 2),
+        ("ensemble --first 18446744073709551616", 2),
+        ("ensemble --first 0 --samples 1", 3),
         ("run --workers 2 --workers 2", 3),
         ("run --workers 2 --seed", 4),
         ("run --workers 2 --seed x y", 4),

@@ -44,6 +44,18 @@ pub enum Words {
         /// The number of the manifest, at most 1,000,000,000.
         number: u64,
     },
+    Ensemble {
+        /// From 1 to 64.
+        workers: u64,
+        /// How many seeds, from 1 to 1,000.
+        seeds: u64,
+        /// The first seed.
+        first: u64,
+        /// As for `Run`.
+        until: Option<u64>,
+        /// The most events of a run, at most 10,000,000.
+        limit: u64,
+    },
 }
 
 impl Words {
@@ -73,6 +85,13 @@ impl Words {
             Command::Stress => Words::Stress {
                 workers: given.workers.unwrap_or(1),
                 number: given.number.unwrap_or(0),
+            },
+            Command::Ensemble => Words::Ensemble {
+                workers: given.workers.unwrap_or(1),
+                seeds: given.seeds.unwrap_or(10),
+                first: given.first.unwrap_or(0),
+                until: given.until,
+                limit: given.limit.unwrap_or(1_000_000),
             },
         }
     }
@@ -110,7 +129,8 @@ impl Words {
             | Words::Print
             | Words::Run { .. }
             | Words::Compile { .. }
-            | Words::Value { .. } => true,
+            | Words::Value { .. }
+            | Words::Ensemble { .. } => true,
             Words::Gen { .. } | Words::Stress { .. } => false,
         }
     }

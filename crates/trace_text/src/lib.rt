@@ -11,7 +11,10 @@ pub mod laws;
 mod line;
 mod lines;
 
-pub use lines::{write_counts, write_end, write_event, write_limit, write_surface};
+pub use lines::{
+    write_counts, write_end, write_event, write_heading, write_limit, write_surface,
+    write_surface_row,
+};
 
 #[cfg(test)]
 mod tests;

@@ -1,13 +1,13 @@
 //! The lines of a run.
 
-ghost use Rattle.std.specs.Prelude.{◌≡◌, ◌^◌, ◌<◌, ◌≤◌, ◌∷◌, length, OnOk, OnErr};
+ghost use Rattle.std.specs.Prelude.{◌≡◌, ◌^◌, ◌<◌, ◌≤◌, ◌++◌, ◌∷◌, [], length, OnOk, OnErr};
 ghost use Rattle.std.specs.Io.KnownBytes.{Appends};
 ghost use Rattle.surf_outside.specs.Causes.{HasCause};
 ghost use Rattle.surf_outside.specs.Known.{AppendsPrefix};
 ghost use Rattle.surf_kinds.specs.Steps.{site_of_place};
 ghost use Rattle.lattice.specs.Places.{IsPlace};
 ghost use Rattle.surf_outside.specs.Puts.{Puts};
-ghost use Rattle.surface_rows.specs.Rows.{name_of, rows_text};
+ghost use Rattle.surface_rows.specs.Rows.{name_of, row_line, rows_text};
 ghost use Rattle.trace_text.specs.Lines.{direction as direction_text, event_text, heading_text, cells_of, count_text, counts_text, surface_text, end_text, limit_text};
 
 use crate::line::Line;
@@ -15,7 +15,7 @@ use lattice::Lattice;
 use species::Names;
 use surf_kinds::{Event, SpeciesId, Step, rule_of_channel, way_of_channel};
 use surf_outside::{Failed, Sink, put};
-use surface_rows::{name_bytes, write_rows};
+use surface_rows::{name_bytes, write_row_of, write_rows};
 use surface_state::Surface;
 
 /// The direction of a place from its first site; a number that is no place has none.
@@ -69,7 +69,7 @@ pub fn write_event<O: Sink>(out: &mut O, lattice: &Lattice, event: Event) -> Res
 }
 
 /// Writes the first line of a surface.
-fn write_heading<O: Sink>(out: &mut O, tick: u64, events: u64) -> Result<(), Failed>
+pub fn write_heading<O: Sink>(out: &mut O, tick: u64, events: u64) -> Result<(), Failed>
     ensures { Puts (O.written out.old) (O.written out.new) (O.faults out.old) (O.faults out.new) (heading_text tick events) result }
 {
     let line = Line::pair(b"surface ", tick, events);
@@ -103,7 +103,7 @@ fn write_count<O: Sink>(
     put(out, line.bytes())
 }
 
-/// Writes the line of the counts of a surface.
+/// Writes the last line of a surface: how many sites each species has. Each name goes out by a call of its own.
 pub fn write_counts<O: Sink>(out: &mut O, names: &Names, surface: &Surface) -> Result<(), Failed>
     requires { surface.now.species_count ≡ length names.now }
     ensures { Puts (O.written out.old) (O.written out.new) (O.faults out.old) (O.faults out.new) (counts_text names.now surface.now.sites) result }
@@ -113,6 +113,22 @@ pub fn write_counts<O: Sink>(out: &mut O, names: &Names, surface: &Surface) -> R
         write_count(out, names, surface, SpeciesId(species as u16))?;
     }
     put(out, b"\n")
+}
+
+/// Writes the line of a row of a surface. Each name goes out by a call of its own.
+pub fn write_surface_row<O: Sink>(
+    out: &mut O,
+    names: &Names,
+    lattice: &Lattice,
+    surface: &Surface,
+    row: u32,
+) -> Result<(), Failed>
+    requires lattice { surface.now.lattice ≡ lattice.now }
+    requires species_count { surface.now.species_count ≡ length names.now }
+    requires row { row < lattice.now.rows }
+    ensures { Puts (O.written out.old) (O.written out.new) (O.faults out.old) (O.faults out.new) (row_line names.now lattice.now.cols (cells_of surface.now.sites) row ++ 10 ∷ []) result }
+{
+    write_row_of(out, names, lattice.cols(), surface.cells(), row)
 }
 
 /// Writes the rows of a surface.
