@@ -38,6 +38,15 @@ gate_of nets g lt =
     let e : net_of nets g ≡ f.at = omega (arith, f.number) in
     (f.it, ap (slice_get nets) e ∙ f.stands, f.gate)
 
+-- there are no more gates than nets
+gates_within : (k : ℕ) (nets : List Net) → length (gates_from k nets) ≤ length nets
+gates_within k [] = omega arith
+gates_within k (net.Input i ∷ nets) = omega (arith, gates_within (suc k) nets)
+gates_within k (net.Gate op a b ∷ nets) = omega (arith, gates_within (suc k) nets)
+
+pub few_gates : (nets : List Net) → gate_count nets ≤ length nets
+few_gates nets = gates_within 0 nets
+
 pub gate_named : (nets : List Net) (g : ℕ) → g < gate_count nets → net_of nets g < length nets
 gate_named nets g lt = let x = gate_of nets g lt in slice_get_within nets (net_of nets g) x.0 x.1
 
@@ -172,6 +181,9 @@ input_has nets i are lt =
     let r = input_there 0 (input_count nets) nets i are lt in
     let is : slice_get nets r.0 ≡ Some (net.Input i) = r.1 ∙ ap (λ x. Some (net.Input x)) (omega arith) in
     ap (slice_get nets) (input_at nets r.0 i are is) ∙ is
+
+pub input_inside : (nets : List Net) (i : ℕ) → AreNumbered nets → i < input_count nets → input_net nets i < length nets
+input_inside nets i are lt = slice_get_within nets (input_net nets i) _ (input_has nets i are lt)
 
 -- no input comes before the net with its own number
 pub none_before : (nets : List Net) (i k : ℕ) → AreNumbered nets → k < i → k < length nets → is_input i (get_or nets k (net.Input 0)) ≡ false

@@ -1,5 +1,6 @@
 pub mod Gates
 pub mod Places
+pub mod Columns
 pub mod Agrees
 pub mod Ends
 pub mod Shows
@@ -7,3 +8,4 @@ pub mod Sources
 pub mod Fed
 pub mod Edges
 pub mod Whole
+pub mod LawLemmas

@@ -8,10 +8,10 @@ use Rattle.gate_layout.specs.declared.parts.Part.TheVariants.{FirstPin, Body, Se
 use Rattle.gate_layout.specs.declared.parts.Column.{Column}
 use Rattle.gate_layout.specs.declared.parts.Column.TheVariants.{Outside, Of}
 use Rattle.gate_layout.specs.declared.parts.Row.{Row}
-use Rattle.gate_layout.specs.declared.parts.Row.TheVariants.{NetRow, Between, Pins, Bottom}
+use Rattle.gate_layout.specs.declared.parts.Row.TheVariants.{TrackRow, Between, Pins, Bottom}
 use Rattle.std.proofs.lemmas.Nat.{mod-mul-add, div-mul-add, div-add-mod', mod_below}
 use Rattle.gate_layout.specs.Nets.{gate_count}
-use Rattle.gate_layout.specs.Layout.{part_of, column_of, row_of}
+use Rattle.gate_layout.specs.Placed.{part_of, column_of, row_of}
 use Rattle.gate_layout.specs.Within.{IsColumnOf, IsRowOf}
 
 spot_east : (s cols : ℕ) → s % cols + 1 < cols → ((s + 1) / cols ≡ s / cols) × ((s + 1) % cols ≡ s % cols + 1)
@@ -91,63 +91,63 @@ next_column gates (suc k) =
 
 -- a row and the next one
 abbrev pub AreUnder : ℕ → Row → Row → Type 0
-AreUnder nets (NetRow n) (Between m) = n ≡ m
-AreUnder nets (Between n) (NetRow m) = n + 1 ≡ m
-AreUnder nets (Between n) Pins = n + 1 ≡ nets
-AreUnder nets Pins Bottom = ⊤
-AreUnder nets r s = ⊥
+AreUnder tracks (TrackRow n) (Between m) = n ≡ m
+AreUnder tracks (Between n) (TrackRow m) = n + 1 ≡ m
+AreUnder tracks (Between n) Pins = n + 1 ≡ tracks
+AreUnder tracks Pins Bottom = ⊤
+AreUnder tracks r s = ⊥
 
-pub row_net : (nets n : ℕ) → n < nets → row_of nets (2 * n) ≡ NetRow n
-row_net nets n lt =
+pub row_track : (tracks n : ℕ) → n < tracks → row_of tracks (2 * n) ≡ TrackRow n
+row_track tracks n lt =
     let z : 2 * n % 2 ≡ 0 = omega arith in
     let d : 2 * n / 2 ≡ n = omega arith in
-    rw (lt-ltb (2 * n) (2 * nets) (omega (arith, lt)), z, d) refl
+    rw (lt-ltb (2 * n) (2 * tracks) (omega (arith, lt)), z, d) refl
 
-pub row_between : (nets n : ℕ) → n < nets → row_of nets (2 * n + 1) ≡ Between n
-row_between nets n lt =
+pub row_between : (tracks n : ℕ) → n < tracks → row_of tracks (2 * n + 1) ≡ Between n
+row_between tracks n lt =
     let z : (2 * n + 1) % 2 ≡ 1 = omega arith in
     let d : (2 * n + 1) / 2 ≡ n = omega arith in
-    rw (lt-ltb (2 * n + 1) (2 * nets) (omega (arith, lt)), z, d) refl
+    rw (lt-ltb (2 * n + 1) (2 * tracks) (omega (arith, lt)), z, d) refl
 
-pub row_pins : (nets : ℕ) → row_of nets (2 * nets) ≡ Pins
-row_pins nets = rw (le-ltb (2 * nets) (2 * nets) (omega arith), eq-eqb (2 * nets) (2 * nets) refl) refl
+pub row_pins : (tracks : ℕ) → row_of tracks (2 * tracks) ≡ Pins
+row_pins tracks = rw (le-ltb (2 * tracks) (2 * tracks) (omega arith), eq-eqb (2 * tracks) (2 * tracks) refl) refl
 
-pub row_bottom : (nets : ℕ) → row_of nets (2 * nets + 1) ≡ Bottom
-row_bottom nets = rw (le-ltb (2 * nets + 1) (2 * nets) (omega arith), not_same (2 * nets + 1) (2 * nets) (omega arith)) refl
+pub row_bottom : (tracks : ℕ) → row_of tracks (2 * tracks + 1) ≡ Bottom
+row_bottom tracks = rw (le-ltb (2 * tracks + 1) (2 * tracks) (omega arith), not_same (2 * tracks + 1) (2 * tracks) (omega arith)) refl
 
 -- which row a number is
-pub data RowView (nets : ℕ) : ℕ → Type 0 where
-  OfNet : (n : ℕ) → n < nets → RowView nets (2 * n)
-  Below : (n : ℕ) → n < nets → RowView nets (2 * n + 1)
-  OfPins : RowView nets (2 * nets)
-  Last : RowView nets (2 * nets + 1)
+pub data RowView (tracks : ℕ) : ℕ → Type 0 where
+  OfTrack : (n : ℕ) → n < tracks → RowView tracks (2 * n)
+  Below : (n : ℕ) → n < tracks → RowView tracks (2 * n + 1)
+  OfPins : RowView tracks (2 * tracks)
+  Last : RowView tracks (2 * tracks + 1)
 
-pub view : (nets r : ℕ) → r < 2 * nets + 2 → RowView nets r
-view nets r lt = elim (cases_lt r (2 * nets)) [
+pub view : (tracks r : ℕ) → r < 2 * tracks + 2 → RowView tracks r
+view tracks r lt = elim (cases_lt r (2 * tracks)) [
   | inl in_nets ↦ elim (cases_eq (r % 2) 0) [
-    | inl even ↦ let e : 2 * (r / 2) ≡ r = omega (arith, even) in subst (RowView nets) e (OfNet (r / 2) (omega (arith, in_nets, e)))
-    | inr odd ↦ let e : 2 * (r / 2) + 1 ≡ r = omega (arith, odd) in subst (RowView nets) e (Below (r / 2) (omega (arith, in_nets, e)))
+    | inl even ↦ let e : 2 * (r / 2) ≡ r = omega (arith, even) in subst (RowView tracks) e (OfTrack (r / 2) (omega (arith, in_nets, e)))
+    | inr odd ↦ let e : 2 * (r / 2) + 1 ≡ r = omega (arith, odd) in subst (RowView tracks) e (Below (r / 2) (omega (arith, in_nets, e)))
   ]
-  | inr after ↦ elim (cases_eq r (2 * nets)) [
-    | inl same ↦ subst (RowView nets) (sym same) OfPins
-    | inr other ↦ let e : 2 * nets + 1 ≡ r = omega (arith, lt, after, other) in subst (RowView nets) e Last
+  | inr after ↦ elim (cases_eq r (2 * tracks)) [
+    | inl same ↦ subst (RowView tracks) (sym same) OfPins
+    | inr other ↦ let e : 2 * tracks + 1 ≡ r = omega (arith, lt, after, other) in subst (RowView tracks) e Last
   ]
 ]
 
-pub under_row : (nets r : ℕ) → RowView nets r → r + 1 < 2 * nets + 2 → AreUnder nets (row_of nets r) (row_of nets (r + 1))
-under_row nets _ (OfNet n lt) inside = subst (λ s. AreUnder nets s (row_of nets (2 * n + 1))) (sym (row_net nets n lt)) (subst (λ s. AreUnder nets (NetRow n) s) (sym (row_between nets n lt)) refl)
-under_row nets _ (Below n lt) inside = subst (λ s. AreUnder nets s (row_of nets (2 * n + 1 + 1))) (sym (row_between nets n lt)) (elim (cases_eq (n + 1) nets) [
-  | inl last ↦ let e : 2 * nets ≡ 2 * n + 1 + 1 = omega (arith, last) in subst (λ k. AreUnder nets (Between n) (row_of nets k)) e (subst (λ s. AreUnder nets (Between n) s) (sym (row_pins nets)) last)
-  | inr more ↦ let e : 2 * (n + 1) ≡ 2 * n + 1 + 1 = omega arith in subst (λ k. AreUnder nets (Between n) (row_of nets k)) e (subst (λ s. AreUnder nets (Between n) s) (sym (row_net nets (n + 1) (omega (arith, lt, more)))) refl)
+pub under_row : (tracks r : ℕ) → RowView tracks r → r + 1 < 2 * tracks + 2 → AreUnder tracks (row_of tracks r) (row_of tracks (r + 1))
+under_row tracks _ (OfTrack n lt) inside = subst (λ s. AreUnder tracks s (row_of tracks (2 * n + 1))) (sym (row_track tracks n lt)) (subst (λ s. AreUnder tracks (TrackRow n) s) (sym (row_between tracks n lt)) refl)
+under_row tracks _ (Below n lt) inside = subst (λ s. AreUnder tracks s (row_of tracks (2 * n + 1 + 1))) (sym (row_between tracks n lt)) (elim (cases_eq (n + 1) tracks) [
+  | inl last ↦ let e : 2 * tracks ≡ 2 * n + 1 + 1 = omega (arith, last) in subst (λ k. AreUnder tracks (Between n) (row_of tracks k)) e (subst (λ s. AreUnder tracks (Between n) s) (sym (row_pins tracks)) last)
+  | inr more ↦ let e : 2 * (n + 1) ≡ 2 * n + 1 + 1 = omega arith in subst (λ k. AreUnder tracks (Between n) (row_of tracks k)) e (subst (λ s. AreUnder tracks (Between n) s) (sym (row_track tracks (n + 1) (omega (arith, lt, more)))) refl)
 ])
-under_row nets _ OfPins inside = subst (λ s. AreUnder nets s (row_of nets (2 * nets + 1))) (sym (row_pins nets)) (subst (λ s. AreUnder nets Pins s) (sym (row_bottom nets)) tt)
-under_row nets _ Last inside = absurd (omega (arith, inside))
+under_row tracks _ OfPins inside = subst (λ s. AreUnder tracks s (row_of tracks (2 * tracks + 1))) (sym (row_pins tracks)) (subst (λ s. AreUnder tracks Pins s) (sym (row_bottom tracks)) tt)
+under_row tracks _ Last inside = absurd (omega (arith, inside))
 
-pub row_is : (nets : List Net) (r : ℕ) → RowView (length nets) r → IsRowOf nets (row_of (length nets) r)
-row_is nets _ (OfNet n lt) = subst (IsRowOf nets) (sym (row_net (length nets) n lt)) lt
-row_is nets _ (Below n lt) = subst (IsRowOf nets) (sym (row_between (length nets) n lt)) lt
-row_is nets _ OfPins = subst (IsRowOf nets) (sym (row_pins (length nets))) tt
-row_is nets _ Last = subst (IsRowOf nets) (sym (row_bottom (length nets))) tt
+pub row_is : (tracks r : ℕ) → RowView tracks r → IsRowOf tracks (row_of tracks r)
+row_is tracks _ (OfTrack n lt) = subst (IsRowOf tracks) (sym (row_track tracks n lt)) lt
+row_is tracks _ (Below n lt) = subst (IsRowOf tracks) (sym (row_between tracks n lt)) lt
+row_is tracks _ OfPins = subst (IsRowOf tracks) (sym (row_pins tracks)) tt
+row_is tracks _ Last = subst (IsRowOf tracks) (sym (row_bottom tracks)) tt
 
 column_is_in : (nets : List Net) (k : ℕ) (b : Bool) → nat_lt k (6 * gate_count nets) ≡ b → IsColumnOf nets (column_in (gate_count nets) k b)
 column_is_in nets k true is = omega (arith, ltb-true k (6 * gate_count nets) is)
@@ -157,5 +157,5 @@ pub column_is : (nets : List Net) (c : ℕ) → IsColumnOf nets (column_of (gate
 column_is nets zero = tt
 column_is nets (suc k) = column_is_in nets k (nat_lt k (6 * gate_count nets)) refl
 
-pub row_inside : (nets : List Net) (r : ℕ) → r < 2 * length nets + 2 → IsRowOf nets (row_of (length nets) r)
-row_inside nets r lt = row_is nets r (view (length nets) r lt)
+pub row_inside : (tracks r : ℕ) → r < 2 * tracks + 2 → IsRowOf tracks (row_of tracks r)
+row_inside tracks r lt = row_is tracks r (view tracks r lt)

@@ -10,7 +10,7 @@ use Rattle.gate_layout.specs.declared.parts.Column.{Column}
 use Rattle.gate_layout.specs.declared.parts.Column.TheVariants.{Outside, Of}
 use Rattle.gate_layout.specs.declared.parts.Side.TheVariants.{East, South, West}
 use Rattle.gate_layout.specs.Nets.{gate_count, net_of, gate_at}
-use Rattle.gate_layout.specs.Layout.{col_count, part_of, column_of, source_in, source, source_side, row_side}
+use Rattle.gate_layout.specs.Placed.{col_count, part_of, column_of, source_in, source, source_side, row_side}
 use Rattle.gate_layout.proofs.Gates.{gate_found}
 use Rattle.gate_layout.proofs.Places.{AreNext, next_column}
 

@@ -1,13 +1,14 @@
 //! From which side a half is filled.
 
-ghost use Rattle.std.specs.Prelude.{◌≡◌, ◌<◌, ◌≤◌, ◌+◌, ◌*◌, ◌^◌, length, Some, slice_get};
+ghost use Rattle.std.specs.Prelude.{◌≡◌, ◌<◌, ◌≤◌, ◌+◌, ◌*◌, ◌^◌, length, IfSome, Some, slice_get};
 ghost use Rattle.gate_layout.specs.Nets.{gate_count, gate_at, is_input, input_net, AreNumbered};
 ghost use Rattle.gate_layout.specs.Table.{IsNamed, halves, spot_of};
-ghost use Rattle.gate_layout.specs.Layout.{source, source_side, row_side, column_side, net_side, body_side, pins_side, bottom_side, side_in, neighbour};
+ghost use Rattle.gate_layout.specs.Placed.{Placement as Placing, col_count, source, source_side, row_side, column_side, net_side, body_side, pins_side, bottom_side, side_in, neighbour};
 ghost use Rattle.gate_layout.specs.Within.{IsRowOf};
 ghost use Rattle.gate_layout.specs.declared.parts.Side.TheVariants as sides;
 
 use crate::parts::{Column, Part, Row, Side};
+use crate::placement::Placement;
 use crate::role::Role;
 use crate::roles::operand_b;
 use circuit_text::{Circuit, Net};
@@ -118,13 +119,13 @@ fn column_side(column: Column) -> Side
     }
 }
 
-fn net_side(circuit: &Circuit, net: u32, column: Column, col: u32, half: u8) -> Option<Side>
-    requires net { net < length circuit.now.nets }
+fn net_side(circuit: &Circuit, run: Option<u32>, column: Column, col: u32, half: u8) -> Option<Side>
+    requires run { IfSome run (λ net. net < length circuit.now.nets) }
     requires few { 6 * gate_count circuit.now.nets < 2 ^ 20 }
-    ensures { result ≡ net_side circuit.now.nets net column col half }
+    ensures { result ≡ net_side circuit.now.nets run column col half }
 {
-    match half {
-        0 => row_side(circuit, net, col),
+    match (run, half) {
+        (Some(net), 0) => row_side(circuit, net, col),
         _ => Some(column_side(column)),
     }
 }
@@ -163,19 +164,26 @@ fn bottom_side(column: Column) -> Side
 }
 
 /// The side of a half that a role has from which it is filled; `None` for an input cell.
-pub(crate) fn side_in(
-    circuit: &Circuit,
+pub(crate) fn side_in<P: Placement>(
+    placement: &P,
     row: Row,
     column: Column,
     col: u32,
     half: u8,
 ) -> Option<Side>
-    requires row { IsRowOf circuit.now.nets row }
-    requires few { 6 * gate_count circuit.now.nets < 2 ^ 20 }
-    ensures { result ≡ side_in circuit.now.nets row column col half }
+    requires row { IsRowOf (P.placing placement.now).tracks row }
+    requires col { col < col_count (P.net_list placement.now).nets }
+    requires few { 6 * gate_count (P.net_list placement.now).nets < 2 ^ 20 }
+    ensures { result ≡ side_in (P.placing placement.now) (P.net_list placement.now).nets row column col half }
 {
     match row {
-        Row::NetRow { net } => net_side(circuit, net, column, col, half),
+        Row::TrackRow { track } => net_side(
+            placement.circuit(),
+            placement.runs(track, col),
+            column,
+            col,
+            half,
+        ),
         Row::Between { .. } => Some(column_side(column)),
         Row::Pins => Some(pins_side(column, half)),
         Row::Bottom => Some(bottom_side(column)),

@@ -2,21 +2,18 @@
 
 ghost use Rattle.std.specs.Prelude.{◌≡◌, ℕ, ◌<◌, ◌≤◌, ◌+◌, ◌*◌, ◌^◌, ◌↔◌, ◌⊎◌, length, get_or, IfOk, IfErr, IsErr, IsNone};
 ghost use Rattle.std.specs.Option.{option_map};
-ghost use Rattle.gate_layout.specs.Nets.{gate_count, input_net, AreNumbered};
+ghost use Rattle.gate_layout.specs.Nets.{gate_count, input_net};
 ghost use Rattle.gate_layout.specs.Table.{IsWellFormed, IsInput, halves, spot_of};
-ghost use Rattle.gate_layout.specs.Layout.{row_count, col_count, site_count, role_of, side_of, feeder_of, rank_of, input_cell, output_cell, layout};
-ghost use Rattle.gate_layout.specs.Layout.{row_of as row_at, column_of as column_at};
-ghost use Rattle.gate_layout.specs.Within.{IsRowOf, IsColumnOf};
-ghost use Rattle.circuit_text.specs.Values.{AreNets, input_count};
+ghost use Rattle.gate_layout.specs.Placed.{col_count};
+ghost use Rattle.gate_layout.specs.Layout.{row_count, site_count, role_of, feeder_of, rank_of, input_cell, output_cell, layout};
+ghost use Rattle.circuit_text.specs.Values.{input_count};
 
-use crate::feeds::{halves, input_net, neighbour, side_in};
-use crate::parts::{Column, Row, Side, column_of, row_of};
-use crate::ranks::rank_in;
+use crate::feeds::input_net;
+use crate::placed::{circuit_facts, feeder_on, rank_on, role_on};
+use crate::placement::Placement;
 use crate::role::Role;
-use crate::roles::role_in;
 use crate::table::Roles;
 use circuit_text::Circuit;
-use circuit_text::laws::nets_are_ordered;
 use std::marker::Model;
 
 /// The most cells of a layout.
@@ -48,74 +45,28 @@ impl<'a> Model for Layout<'a> {
     ghost invariant = { λ l. site_count l.circuit.now.nets ≤ 2 ^ 20 };
 }
 
-/// What holds of each circuit: it has at most 65,536 nets, its inputs are numbered in the order of the nets, and its
-/// outputs are nets. The calls say so, and their answers are not needed.
-pub(crate) fn circuit_facts(circuit: &Circuit)
-    ensures few { length circuit.now.nets ≤ 65536 }
-    ensures nets { AreNets circuit.now.nets }
-    ensures inputs { AreNumbered circuit.now.nets }
-    ensures outputs { (i : ℕ) → i < length circuit.now.outputs → get_or circuit.now.outputs i 0 < length circuit.now.nets }
-{
-    nets_are_ordered(circuit);
-    let _nets = circuit.net_count();
-    let _inputs = circuit.input_count();
-    let _outputs = circuit.output_count();
-}
+impl<'a> Placement for Layout<'a> {
+    ghost use Rattle.gate_layout.specs.Layout.{closed};
 
-/// What a row and a column are for.
-#[tactic(auto, using(crate::proofs::Places::column_is, crate::proofs::Places::row_inside))]
-fn places(circuit: &Circuit, row: u32, col: u32) -> (Row, Column)
-    requires row { row < row_count circuit.now.nets }
-    requires few { 6 * gate_count circuit.now.nets < 2 ^ 20 }
-    ensures row { result.0 ≡ row_at (length circuit.now.nets) row }
-    ensures column { result.1 ≡ column_at (gate_count circuit.now.nets) col }
-    ensures row_within { IsRowOf circuit.now.nets result.0 }
-    ensures column_within { IsColumnOf circuit.now.nets result.1 }
-{
-    (
-        row_of(circuit.net_count(), row),
-        column_of(circuit.gate_count(), col),
-    )
-}
+    ghost placing = { λ l. closed l.nets };
 
-/// The role of a cell.
-#[tactic(auto, unfolding(crate::specs::Layout::role_of))]
-fn role(circuit: &Circuit, row: u32, col: u32) -> Role
-    requires row { row < row_count circuit.now.nets }
-    requires few { 6 * gate_count circuit.now.nets < 2 ^ 20 }
-    ensures { result ≡ role_of circuit.now.nets row col }
-{
-    let (place, column) = places(circuit, row, col);
-    role_in(circuit, place, column)
-}
+    ghost net_list = { λ l. l };
 
-/// The side of a half from which it is filled; `None` for an input cell and for a half that the role hasn't.
-#[tactic(auto, using(crate::proofs::Agrees::role_named))]
-fn side(circuit: &Circuit, row: u32, col: u32, half: u8) -> Option<Side>
-    requires row { row < row_count circuit.now.nets }
-    requires col { col < col_count circuit.now.nets }
-    requires few { 6 * gate_count circuit.now.nets < 2 ^ 20 }
-    ensures { result ≡ side_of circuit.now.nets row col half }
-{
-    circuit_facts(circuit);
-    if half >= halves(circuit, role(circuit, row, col)) {
-        return None;
+    fn circuit(&self) -> &Circuit {
+        self.circuit
     }
-    let (place, column) = places(circuit, row, col);
-    side_in(circuit, place, column, col, half)
-}
 
-/// The cell from which a half is filled.
-#[tactic(auto, using(crate::proofs::Edges::north_inside, crate::proofs::Edges::west_inside), unfolding(crate::specs::Layout::feeder_of))]
-fn feeder(circuit: &Circuit, row: u32, col: u32, half: u8) -> Option<(u32, u32)>
-    requires row { row < row_count circuit.now.nets }
-    requires col { col < col_count circuit.now.nets }
-    requires sites { site_count circuit.now.nets ≤ 2 ^ 20 }
-    ensures { option_map spot_of result ≡ feeder_of circuit.now.nets row col half }
-{
-    match side(circuit, row, col, half) {
-        Some(side) => Some(neighbour(row, col, side)),
-        None => None,
+    fn tracks(&self) -> u32 {
+        let circuit = self.circuit;
+        circuit.net_count()
+    }
+
+    fn track(&self, net: u32) -> u32 {
+        net
+    }
+
+    fn runs(&self, track: u32, _col: u32) -> Option<u32> {
+        Some(track)
     }
 }
 
@@ -137,6 +88,14 @@ impl<'a> Layout<'a> {
             return Err(TooManySites { sites });
         }
         Ok(Layout { circuit })
+    }
+
+    /// There are few enough cells, and so few enough gates.
+    fn has_room(&self)
+        ensures sites { site_count self.now.nets ≤ 2 ^ 20 }
+        ensures few { 6 * gate_count self.now.nets < 2 ^ 20 }
+    {
+        let _circuit = self.circuit;
     }
 
     /// Two rows for each net, and two more.
@@ -162,8 +121,8 @@ impl<'a> Layout<'a> {
         requires col { col < col_count self.now.nets }
         ensures { result ≡ role_of self.now.nets row col }
     {
-        let circuit = self.circuit;
-        role(circuit, row, col)
+        self.has_room();
+        role_on(self, row, col)
     }
 
     /// The cell of an input: the first one in the row of the input's net.
@@ -188,26 +147,25 @@ impl<'a> Layout<'a> {
     /// The neighbour from which a half is filled. Half 0 is the row half of a crossing or the first operand of a
     /// gate, half 1 the other; other roles have half 0. `None` exactly for inert cells, for input cells, and for
     /// halves that the role hasn't.
+    #[tactic(auto, using(crate::proofs::Whole::closed_is))]
     pub fn feeder(&self, row: u32, col: u32, half: u8) -> Option<(u32, u32)>
         requires row { row < row_count self.now.nets }
         requires col { col < col_count self.now.nets }
         ensures feeder { option_map spot_of result ≡ feeder_of self.now.nets row col half }
         ensures none { IsNone result ↔ ((halves self.now.nets (role_of self.now.nets row col) ≤ half) ⊎ IsInput (layout self.now) (spot_of (row, col))) }
     {
-        let circuit = self.circuit;
-        circuit_facts(circuit);
-        feeder(circuit, row, col, half)
+        self.has_room();
+        feeder_on(self, row, col, half)
     }
 
     /// The rank of a half. A half that has a feeder has a higher rank than the halves of the feeder that fill it.
-    #[tactic(auto, unfolding(crate::specs::Layout::rank_of))]
     pub fn rank(&self, row: u32, col: u32, half: u8) -> u64
         requires row { row < row_count self.now.nets }
         requires col { col < col_count self.now.nets }
         ensures { result ≡ rank_of self.now.nets row col half }
     {
-        let circuit = self.circuit;
-        rank_in(circuit, places(circuit, row, col), row, col, half)
+        self.has_room();
+        rank_on(self, row, col, half)
     }
 }
 

@@ -1,7 +1,7 @@
 //! The rows and columns of a layout, by what they are for.
 
 ghost use Rattle.std.specs.Prelude.{◌≡◌, ◌<◌, ◌*◌, ◌^◌};
-ghost use Rattle.gate_layout.specs.Layout.{part_of, column_of as column_at, row_of as row_at};
+ghost use Rattle.gate_layout.specs.Placed.{part_of, column_of as column_at, row_of as row_at};
 
 /// One of the six columns of a gate.
 #[derive(Clone, Copy)]
@@ -23,9 +23,9 @@ pub(crate) enum Column {
 
 #[derive(Clone, Copy)]
 pub(crate) enum Row {
-    NetRow { net: u32 },
-    /// The row below that of a net.
-    Between { net: u32 },
+    TrackRow { track: u32 },
+    /// The row below that of a track.
+    Between { track: u32 },
     Pins,
     Bottom,
 }
@@ -68,17 +68,17 @@ pub(crate) fn column_of(gates: u32, col: u32) -> Column
     }
 }
 
-pub(crate) fn row_of(nets: u32, row: u32) -> Row
-    requires { 2 * nets < 2 ^ 32 }
-    ensures { result ≡ row_at nets row }
+pub(crate) fn row_of(tracks: u32, row: u32) -> Row
+    requires { 2 * tracks < 2 ^ 32 }
+    ensures { result ≡ row_at tracks row }
 {
-    if row < 2 * nets {
+    if row < 2 * tracks {
         if row % 2 == 0 {
-            Row::NetRow { net: row / 2 }
+            Row::TrackRow { track: row / 2 }
         } else {
-            Row::Between { net: row / 2 }
+            Row::Between { track: row / 2 }
         }
-    } else if row == 2 * nets {
+    } else if row == 2 * tracks {
         Row::Pins
     } else {
         Row::Bottom

@@ -3,10 +3,12 @@
 ghost use Rattle.std.specs.Prelude.{◌≡◌, ◌<◌, length, IfSome};
 ghost use Rattle.circuit_text.specs.Values.{AreNets};
 ghost use Rattle.gate_layout.specs.Nets.{gate_count, net_of, operand_a, operand_b};
-ghost use Rattle.gate_layout.specs.Layout.{track, net_role, between_role, pin_a, pin_b, pins_role, bottom_role, role_in};
-ghost use Rattle.gate_layout.specs.Within.{IsColumnOf};
+ghost use Rattle.gate_layout.specs.Table.{IsNamed};
+ghost use Rattle.gate_layout.specs.Placed.{Placement as Placing, col_count, column_net, net_role, between_role, pin_a, pin_b, pins_role, bottom_role, role_in};
+ghost use Rattle.gate_layout.specs.Within.{IsColumnOf, IsRowOf};
 
 use crate::parts::{Column, Part, Row};
+use crate::placement::Placement;
 use crate::role::Role;
 use circuit_text::{Circuit, Net};
 
@@ -43,10 +45,10 @@ pub(crate) fn operand_b(circuit: &Circuit, gate: u32) -> Option<u32>
     }
 }
 
-/// The net that runs along a column.
-pub(crate) fn track(circuit: &Circuit, column: Column) -> Option<u32>
+/// The net of a column, which runs in it.
+pub(crate) fn column_net(circuit: &Circuit, column: Column) -> Option<u32>
     requires { IsColumnOf circuit.now.nets column }
-    ensures track { result ≡ track circuit.now.nets column }
+    ensures net { result ≡ column_net circuit.now.nets column }
     ensures within { IfSome result (λ net. net < length circuit.now.nets) }
 {
     match column {
@@ -66,29 +68,60 @@ pub(crate) fn track(circuit: &Circuit, column: Column) -> Option<u32>
     }
 }
 
-fn net_role(net: u32, track: Option<u32>) -> Role
-    ensures { result ≡ net_role net track }
+/// The role of a cell in the row of a track, by the net that runs there and the net of the column.
+fn net_role<P: Placement>(
+    placement: &P,
+    track: u32,
+    run: Option<u32>,
+    crossing: Option<u32>,
+) -> Role
+    requires run { IfSome run (λ net. net < length (P.net_list placement.now).nets) }
+    requires crossing { IfSome crossing (λ net. net < length (P.net_list placement.now).nets) }
+    ensures role { result ≡ net_role (P.placing placement.now) track run crossing }
+    ensures named { IsNamed (P.net_list placement.now).nets result }
 {
-    match track {
-        Some(col_net) if col_net < net => Role::Cross {
-            row_net: net,
-            col_net,
-        },
-        _ => Role::Wire { net },
+    match (run, crossing) {
+        (Some(row_net), Some(col_net)) => {
+            if placement.track(col_net) < track {
+                Role::Cross { row_net, col_net }
+            } else {
+                Role::Wire { net: row_net }
+            }
+        }
+        (Some(net), None) => Role::Wire { net },
+        (None, Some(net)) => {
+            if placement.track(net) < track {
+                Role::Vert { net }
+            } else {
+                Role::Inert
+            }
+        }
+        (None, None) => Role::Inert,
     }
 }
 
-fn between_role(net: u32, track: Option<u32>) -> Role
-    ensures { result ≡ between_role net track }
+/// The role of a cell below the row of a track, by the net of its column.
+fn between_role<P: Placement>(placement: &P, track: u32, crossing: Option<u32>) -> Role
+    requires crossing { IfSome crossing (λ net. net < length (P.net_list placement.now).nets) }
+    ensures role { result ≡ between_role (P.placing placement.now) track crossing }
+    ensures named { IsNamed (P.net_list placement.now).nets result }
 {
-    match track {
-        Some(col_net) if col_net <= net => Role::Vert { net: col_net },
-        _ => Role::Inert,
+    match crossing {
+        Some(net) => {
+            if placement.track(net) <= track {
+                Role::Vert { net }
+            } else {
+                Role::Inert
+            }
+        }
+        None => Role::Inert,
     }
 }
 
-fn pin_a(net: Option<u32>) -> Role
-    ensures { result ≡ pin_a net }
+fn pin_a(circuit: &Circuit, net: Option<u32>) -> Role
+    requires { IfSome net (λ net. net < length circuit.now.nets) }
+    ensures role { result ≡ pin_a net }
+    ensures named { IsNamed circuit.now.nets result }
 {
     match net {
         Some(net) => Role::PinA { net },
@@ -96,8 +129,10 @@ fn pin_a(net: Option<u32>) -> Role
     }
 }
 
-fn pin_b(net: Option<u32>) -> Role
-    ensures { result ≡ pin_b net }
+fn pin_b(circuit: &Circuit, net: Option<u32>) -> Role
+    requires { IfSome net (λ net. net < length circuit.now.nets) }
+    ensures role { result ≡ pin_b net }
+    ensures named { IsNamed circuit.now.nets result }
 {
     match net {
         Some(net) => Role::PinB { net },
@@ -107,13 +142,14 @@ fn pin_b(net: Option<u32>) -> Role
 
 fn pins_role(circuit: &Circuit, column: Column) -> Role
     requires { IsColumnOf circuit.now.nets column }
-    ensures { result ≡ pins_role circuit.now.nets column }
+    ensures role { result ≡ pins_role circuit.now.nets column }
+    ensures named { IsNamed circuit.now.nets result }
 {
     match column {
         Column::Of {
             gate,
             part: Part::FirstPin,
-        } => pin_a(operand_a(circuit, gate)),
+        } => pin_a(circuit, operand_a(circuit, gate)),
         Column::Of {
             gate,
             part: Part::Body,
@@ -121,7 +157,7 @@ fn pins_role(circuit: &Circuit, column: Column) -> Role
         Column::Of {
             gate,
             part: Part::SecondPin,
-        } => pin_b(operand_b(circuit, gate)),
+        } => pin_b(circuit, operand_b(circuit, gate)),
         Column::Of {
             gate,
             part: Part::Rise,
@@ -134,7 +170,8 @@ fn pins_role(circuit: &Circuit, column: Column) -> Role
 
 fn bottom_role(circuit: &Circuit, column: Column) -> Role
     requires { IsColumnOf circuit.now.nets column }
-    ensures { result ≡ bottom_role circuit.now.nets column }
+    ensures role { result ≡ bottom_role circuit.now.nets column }
+    ensures named { IsNamed circuit.now.nets result }
 {
     match column {
         Column::Of {
@@ -147,13 +184,21 @@ fn bottom_role(circuit: &Circuit, column: Column) -> Role
     }
 }
 
-pub(crate) fn role_in(circuit: &Circuit, row: Row, column: Column) -> Role
-    requires { IsColumnOf circuit.now.nets column }
-    ensures { result ≡ role_in circuit.now.nets row column }
+/// The role of a cell, by what its row and its column are for.
+pub(crate) fn role_in<P: Placement>(placement: &P, row: Row, column: Column, col: u32) -> Role
+    requires row { IsRowOf (P.placing placement.now).tracks row }
+    requires column { IsColumnOf (P.net_list placement.now).nets column }
+    requires col { col < col_count (P.net_list placement.now).nets }
+    ensures role { result ≡ role_in (P.placing placement.now) (P.net_list placement.now).nets row column col }
+    ensures named { IsNamed (P.net_list placement.now).nets result }
 {
+    let circuit = placement.circuit();
     match row {
-        Row::NetRow { net } => net_role(net, track(circuit, column)),
-        Row::Between { net } => between_role(net, track(circuit, column)),
+        Row::TrackRow { track } => {
+            let crossing = column_net(circuit, column);
+            net_role(placement, track, placement.runs(track, col), crossing)
+        }
+        Row::Between { track } => between_role(placement, track, column_net(circuit, column)),
         Row::Pins => pins_role(circuit, column),
         Row::Bottom => bottom_role(circuit, column),
     }
