@@ -1,0 +1,7 @@
+pub mod Lines
+pub mod Passes
+pub mod Order
+pub mod Netlists
+pub mod Readings
+pub mod Placing
+pub mod Chains
