@@ -11,3 +11,14 @@ pub use Rattle.warp_core.proofs.Theory.Settles.{settles_first, passing_first, pa
 pub use Rattle.warp_core.proofs.Theory.Commits.{own_base_kept, commit_keeps}
 pub use Rattle.warp_core.proofs.Theory.Merging.{mergeable, merged_is}
 pub use Rattle.warp_core.proofs.Theory.Forgets.{forgetful_keeps}
+pub use Rattle.warp_core.proofs.Theory.Locals.{after_all_append, raised}
+pub use Rattle.warp_core.proofs.Theory.Parts.{if_at_some, next_is, applied_sound, ended_sound, take_sound}
+pub use Rattle.warp_core.proofs.Theory.Later.{unwound, not_before_clock}
+pub use Rattle.warp_core.proofs.Theory.Accepted.{none_or_op, accepted_from, tested_put, put_tested}
+pub use Rattle.warp_core.proofs.Theory.Cuts.{at_below, at_from, below_below, below_all, below_from}
+-- What holds of a surface on its ground, of entries and of what a cut puts: a region at work has the same.
+pub use Rattle.warp_core.proofs.Machine.Runs.{led, events-append, events-below, events-from}
+pub use Rattle.warp_core.proofs.Machine.Ground.{sites-append, ground_sites, ground_lattice, ground_species, ground_bounds, ground_room, step_by, push_ground, cut_ground, drop_ground, run_places, is_later, rising_right, all_right}
+pub use Rattle.warp_core.proofs.Machine.Fitting.{products_below}
+pub use Rattle.warp_core.proofs.Machine.First.{fresh_sites}
+pub use Rattle.warp_core.proofs.Machine.Scans.{place_at}

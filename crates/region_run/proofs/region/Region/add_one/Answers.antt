@@ -1,0 +1,30 @@
+use Rattle.std.proofs.Common.{◌+◌, arith, if◌then◌else◌}
+use Rattle.region_run.proofs.Spares.{less}
+use Rattle.region_run.proofs.Works.{works_then, works_on, on_to_end}
+use Rattle.region_run.proofs.region.Region.add_one.Goals as goal
+
+pub hear-taken-requires-clause-region : goal.hear-taken-requires-clause-region
+hear-taken-requires-clause-region c = let w = c.requires.region in (c.args.until, w.0, w.1)
+
+pub hear-taken-requires-clause-spare : goal.hear-taken-requires-clause-spare
+hear-taken-requires-clause-spare c = less (c.args.most + 1) c.args.most c.args.self.now (omega arith) c.requires.spare
+
+pub step-made-requires-clause-region : goal.step-made-requires-clause-region
+step-made-requires-clause-region c = let w = c.requires.region in (w.0, (c.hear-taken.ensures.works c.args.until w.0 w.1).hears.run.region)
+
+pub step-made-requires-clause-spare : goal.step-made-requires-clause-spare
+step-made-requires-clause-spare c = c.hear-taken.ensures.spare 1 (less (c.args.most + 1) (1 + c.hear-taken.result) c.args.self.now (omega (arith, c.hear-taken.ensures.few)) c.requires.spare)
+
+pub returns-clause-works : goal.returns-clause-works
+returns-clause-works c x g =
+    let heard = c.hear-taken.ensures.works c.args.until x g in
+    works_then c.args.plan.now c.args.cut.now c.args.until x c.args.self.now c.hear-taken.new.self c.step-made.new.self c.args.most 0 c.hear-taken.result 1 0 (if c.step-made.result then 1 else 0) 0 0 c.args.most (if c.step-made.result then 1 else 0) c.hear-taken.result 1
+    g (omega arith) (omega arith) c.hear-taken.ensures.few (λ p q h1 h2 h. omega (arith, h1, h)) heard
+    (works_on c.args.plan.now c.args.cut.now c.args.until x c.hear-taken.new.self c.step-made.new.self c.step-made.result heard.hears.run.region (c.step-made.ensures.steps x heard.hears.run.region) c.step-made.ensures.rings)
+
+pub returns-clause-end : goal.returns-clause-end
+returns-clause-end c x g e =
+    on_to_end c.args.plan.now c.args.cut.now c.args.until x c.hear-taken.new.self c.step-made.new.self c.step-made.result (c.step-made.ensures.steps x (c.hear-taken.ensures.works c.args.until x g).hears.run.region) e
+
+pub returns-clause-spare : goal.returns-clause-spare
+returns-clause-spare c m h = c.step-made.ensures.spare m (c.hear-taken.ensures.spare (m + 1) (less (m + (c.hear-taken.result + 1)) (m + 1 + c.hear-taken.result) c.args.self.now (omega arith) h))

@@ -1,0 +1,13 @@
+pub mod Messages
+pub mod Boards
+pub mod Sides
+pub mod Choices
+pub mod Regions
+pub mod Runs
+pub mod Turns
+pub mod Channels
+pub mod Starts
+pub mod Counts
+pub mod Deliveries
+pub mod Hearing
+pub mod Between

@@ -1,0 +1,42 @@
+//! The next entry of a region.
+
+ghost use Rattle.std.specs.Prelude.{◌≡◌};
+ghost use Rattle.surf_kinds.specs.Keys.{from, RiseStrictly};
+ghost use Rattle.region_run.specs.Choices.{better_of as better_of_two, first_of};
+
+use surf_kinds::{Event, Key};
+
+/// The better of two events: of those from the clock on, up to the end, the one of the lesser key.
+pub(crate) fn better_of(
+    best: Option<Event>,
+    event: Option<Event>,
+    clock: Key,
+    until: u64,
+) -> Option<Event>
+    ensures { result ≡ better_of_two clock until best event }
+{
+    let Some(event) = event else {
+        return best;
+    };
+    let here = event.key();
+    if here.is_before(clock) || until < event.time {
+        return best;
+    }
+    match best {
+        Some(other) if !here.is_before(other.key()) => best,
+        _ => Some(event),
+    }
+}
+
+/// The first event from a key on. Takes a time that goes with the logarithm of the number of events.
+pub(crate) fn first_from(stack: &[Event], clock: Key) -> Option<Event>
+    requires { RiseStrictly stack.now }
+    ensures { result ≡ first_of (from clock stack.now) }
+{
+    let at = stack.partition_point(|event| event.key().is_before(clock));
+    if at < stack.len() {
+        Some(stack[at])
+    } else {
+        None
+    }
+}
