@@ -1,0 +1,5 @@
+pub mod Crews
+pub mod Calls
+pub mod Rounds
+pub mod Rings
+pub mod Reports
