@@ -1,16 +1,17 @@
 -- Rings that are asked one time after the other, and a region that takes what they hand out.
-use Rattle.std.proofs.Common.{◌≡◌, ℕ, zero, suc, ◌+◌, ◌==◌, ◌<◌, Bool, true, false, inl, inr, List, [], ◌∷◌, ◌++◌, refl, sym, ap, ◌∙◌, subst, arith, Option, Some, None, cond, append-nil, append_assoc}
+use Rattle.std.proofs.Common.{◌≡◌, ℕ, zero, suc, ◌+◌, ◌==◌, ◌<◌, Bool, true, false, inl, inr, List, [], ◌∷◌, ◌++◌, length, refl, sym, ap, ◌∙◌, subst, arith, Option, Some, None, cond, append-nil, append_assoc}
 use Rattle.std.proofs.lemmas.Bool.{both_ways, eq-eqb}
 use Rattle.std.proofs.lemmas.Bool.Decides.{eqb_tells}
 use Rattle.plan.specs.Network.{Network}
 use Rattle.regions.specs.Bands.{Bands}
 use Rattle.border.specs.declared.op.Op.{Op}
-use Rattle.border.specs.Ends.{OutView, counted}
+use Rattle.border.specs.Ends.{OutView, InView, counted}
 use Rattle.warp_core.specs.Parts.{PartStep, run_takes}
 use Rattle.region_run.specs.declared.region.Region.{Region}
 use Rattle.region_run.specs.declared.side.Ends.{Ends}
 use Rattle.region_run.specs.declared.totals.Totals.{Totals}
-use Rattle.region_run.specs.Sides.{SideView, is_other, line_of, sent_by, one, asked_after, RingHeard, Heard, Asked, HasRoom}
+use Rattle.region_run.specs.Sides.{SideView, is_other, line_of, sent_by, one, asked_after, RingHeard, RingExchanged, Exchanged, Asked, HasRoom}
+use Rattle.region_run.specs.Channels.{RingFlushed, Flushed}
 use Rattle.region_run.specs.Regions.{Base, line_in, IsRegion}
 use Rattle.region_run.specs.Runs.{MakesStep, MakesRun, SameSide, SameRings, HasSpare}
 use Rattle.region_run.specs.Turns.{handed_out, Hears, IfNumber}
@@ -30,7 +31,7 @@ asked_more n a (suc k) =
 none_both : (xs ys : List Op) → xs ≡ [] → ys ≡ [] → xs ++ ys ≡ []
 none_both xs ys a b = ap (λ l. l ++ ys) a ∙ b
 
-ring_then : (o m t : Option Ends) (xs ys : List Op) (a k : ℕ) → RingHeard o xs a m → RingHeard m ys k t → RingHeard o (xs ++ ys) (a + k) t
+ring_then : (o m t : Option Ends) (xs ys : List Op) (a k : ℕ) → RingExchanged o xs a m → RingExchanged m ys k t → RingExchanged o (xs ++ ys) (a + k) t
 ring_then None None None xs ys a k h g = none_both xs ys h g
 ring_then None None (Some t) xs ys a k h g = absurd g
 ring_then None (Some m) t xs ys a k h g = absurd h
@@ -38,20 +39,52 @@ ring_then (Some e) None t xs ys a k h g = absurd h
 ring_then (Some e) (Some m) None xs ys a k h g = absurd g
 ring_then (Some e) (Some m) (Some t) xs ys a k h g =
     record {
-      out = g.out ∙ h.out;
-      ring = g.ring ∙ h.ring;
-      slots = g.slots ∙ h.slots;
+      out_ring = g.out_ring ∙ h.out_ring;
+      in_ring = g.in_ring ∙ h.in_ring;
+      out_slots = g.out_slots ∙ h.out_slots;
+      in_slots = g.in_slots ∙ h.in_slots;
       received = g.received ∙ (ap (λ l. l ++ ys) h.received ∙ append_assoc e.inn.received xs ys);
       asked = g.asked ∙ (ap (λ n. asked_after n k) h.asked ∙ asked_more e.inn.asked a k);
+      free = omega (arith, h.free, g.free);
     }
 
-ring_self : (o : Option Ends) → RingHeard o [] 0 o
+ring_self : (o : Option Ends) → RingExchanged o [] 0 o
 ring_self None = refl
-ring_self (Some e) = record { out = refl; ring = refl; slots = refl; received = sym (append-nil e.inn.received); asked = refl }
+ring_self (Some e) = record { out_ring = refl; in_ring = refl; out_slots = refl; in_slots = refl; received = sym (append-nil e.inn.received); asked = refl; free = omega arith }
+
+ring_heard : (o t : Option Ends) (xs : List Op) (a : ℕ) → RingHeard o xs a t → RingExchanged o xs a t
+ring_heard None None xs a h = h
+ring_heard None (Some f) xs a h = absurd h
+ring_heard (Some e) None xs a h = absurd h
+ring_heard (Some e) (Some f) xs a h =
+    record {
+      out_ring = ap (λ (o : OutView). o.ring) h.out;
+      in_ring = h.ring;
+      out_slots = ap (λ (o : OutView). o.slots) h.out;
+      in_slots = h.slots;
+      received = h.received;
+      asked = h.asked;
+      free = omega (arith, ap (λ (o : OutView). length o.sent + o.free) h.out);
+    }
+
+ring_sent : (o t : Option Ends) (box box' : List Op) → RingFlushed o box box' t → RingExchanged o [] 0 t
+ring_sent None None box box' f = refl
+ring_sent None (Some t) box box' f = absurd f
+ring_sent (Some e) None box box' f = absurd f
+ring_sent (Some e) (Some t) box box' f =
+    record {
+      out_ring = f.0.ring;
+      in_ring = ap (λ (i : InView). i.ring) f.0.inn;
+      out_slots = f.0.slots;
+      in_slots = ap (λ (i : InView). i.slots) f.0.inn;
+      received = ap (λ (i : InView). i.received) f.0.inn ∙ sym (append-nil e.inn.received);
+      asked = ap (λ (i : InView). i.asked) f.0.inn;
+      free = f.0.free;
+    }
 
 -- a neighbour
 
-pub heard_then : (o m t : Option SideView) (xs ys : List Op) (a k : ℕ) → Heard o xs a m → Heard m ys k t → Heard o (xs ++ ys) (a + k) t
+pub heard_then : (o m t : Option SideView) (xs ys : List Op) (a k : ℕ) → Exchanged o xs a m → Exchanged m ys k t → Exchanged o (xs ++ ys) (a + k) t
 heard_then None None None xs ys a k h g = none_both xs ys h g
 heard_then None None (Some t) xs ys a k h g = absurd g
 heard_then None (Some m) t xs ys a k h g = absurd h
@@ -59,23 +92,29 @@ heard_then (Some s) None t xs ys a k h g = absurd h
 heard_then (Some s) (Some m) None xs ys a k h g = absurd g
 heard_then (Some s) (Some m) (Some t) xs ys a k h g = record { other = g.other ∙ h.other; ring = ring_then s.ends m.ends t.ends xs ys a k h.ring g.ring }
 
-pub heard_same : (o t : Option SideView) → SameSide o t → Heard o [] 0 t
+pub heard_same : (o t : Option SideView) → SameSide o t → Exchanged o [] 0 t
 heard_same None None s = refl
 heard_same None (Some t) s = absurd s
 heard_same (Some o) None s = absurd s
-heard_same (Some o) (Some t) s = record { other = s.0; ring = subst (λ (e : Option Ends). RingHeard o.ends [] 0 e) (sym s.1) (ring_self o.ends) }
+heard_same (Some o) (Some t) s = record { other = s.0; ring = subst (λ (e : Option Ends). RingExchanged o.ends [] 0 e) (sym s.1) (ring_self o.ends) }
 
-pub heard_other : (o t : Option SideView) (xs : List Op) (a : ℕ) → Heard o xs a t → (l : ℕ) → is_other t l ≡ is_other o l
+pub heard_other : (o t : Option SideView) (xs : List Op) (a : ℕ) → Exchanged o xs a t → (l : ℕ) → is_other t l ≡ is_other o l
 heard_other None None xs a h l = refl
 heard_other None (Some t) xs a h l = absurd h
 heard_other (Some s) None xs a h l = absurd h
 heard_other (Some s) (Some t) xs a h l = ap (λ n. n == l) h.other
 
-asked_heard : (o t : Option SideView) (op : Option Op) → Asked o op t → Heard o (one op) 1 t
+asked_heard : (o t : Option SideView) (op : Option Op) → Asked o op t → Exchanged o (one op) 1 t
 asked_heard None None op a = ap one a
 asked_heard None (Some t) op a = absurd a
 asked_heard (Some s) None op a = absurd a
-asked_heard (Some s) (Some t) op a = record { other = ap (λ (v : SideView). v.other) a.rest; ring = a.ring }
+asked_heard (Some s) (Some t) op a = record { other = ap (λ (v : SideView). v.other) a.rest; ring = ring_heard s.ends t.ends (one op) 1 a.ring }
+
+pub flushed_heard : (o t : Option SideView) → Flushed o t → Exchanged o [] 0 t
+flushed_heard None None f = refl
+flushed_heard None (Some t) f = absurd f
+flushed_heard (Some s) None f = absurd f
+flushed_heard (Some s) (Some t) f = record { other = f.other; ring = ring_sent s.ends t.ends s.outbox t.outbox f.ring }
 
 ring_line : (o t : Option Ends) (xs : List Op) (a : ℕ) → RingHeard o xs a t → sent_by t ≡ sent_by o
 ring_line None None xs a h = refl
@@ -194,7 +233,7 @@ module _ (n : Network) (b : Bands) (until : ℕ) (x : Base) (r : Region) (first 
           run = run_first;
           ops1 = [];
           ops2 = [];
-          first = subst (λ (o : Option Op). Heard r.first (one o) 1 first) none (asked_heard r.first first op a);
+          first = subst (λ (o : Option Op). Exchanged r.first (one o) 1 first) none (asked_heard r.first first op a);
           second = heard_same r.second r.second (side_self r.second);
           takes = handed_none r.first r.second;
         };
@@ -253,7 +292,7 @@ module _ (n : Network) (b : Bands) (until : ℕ) (x : Base) (r : Region) (second
           ops1 = [];
           ops2 = [];
           first = heard_same r.first r.first (side_self r.first);
-          second = subst (λ (o : Option Op). Heard r.second (one o) 1 second) none (asked_heard r.second second op a);
+          second = subst (λ (o : Option Op). Exchanged r.second (one o) 1 second) none (asked_heard r.second second op a);
           takes = handed_none r.first r.second;
         };
         adds = refl;

@@ -10,7 +10,7 @@ use Rattle.surf_kinds.proofs.Order.{lt_not_le}
 use Rattle.plan.specs.Network.{Network}
 use Rattle.regions.specs.Bands.{Bands}
 use Rattle.border.specs.declared.op.Op.{Op}
-use Rattle.border.specs.Ends.{OutView, InView}
+use Rattle.border.specs.Ends.{InView}
 use Rattle.border.specs.Messages.{op_key, accepted_op}
 use Rattle.timeline.specs.declared.entry.Entry.{Entry}
 use Rattle.timeline.specs.TimelineView.{events_of}
@@ -21,17 +21,17 @@ use Rattle.region_run.specs.declared.region.Region.{Region}
 use Rattle.region_run.specs.declared.side.Ends.{Ends}
 use Rattle.region_run.specs.declared.totals.Totals.{Totals}
 use Rattle.region_run.specs.declared.totals.Turn.{Turn}
-use Rattle.region_run.specs.Sides.{SideView, is_other, line_of, sent_by, RingHeard, Heard}
+use Rattle.region_run.specs.Sides.{SideView, is_other, line_of, sent_by, HasRoom, RingExchanged, Exchanged}
 use Rattle.region_run.specs.Channels.{RingFlushed, Flushed}
 use Rattle.region_run.specs.Regions.{Base, world_at, part_of, IsRegion}
-use Rattle.region_run.specs.Runs.{MakesStep, SameRings, StepsOn}
+use Rattle.region_run.specs.Runs.{MakesStep, SameRings, StepsOn, HasSpare}
 use Rattle.region_run.specs.Counts.{added_in, taken_in, cut_in}
 use Rattle.region_run.specs.Turns.{Hears, RingTurned, Turned, IsAtEnd, HasEntryLeft, IsTurn}
 use Rattle.region_run.specs.Hearing.{Asks, Works}
 use Rattle.region_run.proofs.Renumbered.{same_parts}
-use Rattle.region_run.proofs.Running.{run_one, added_append, taken_append}
+use Rattle.region_run.proofs.Running.{run_none, run_one, added_append, taken_append}
 use Rattle.std.proofs.lemmas.Bool.Decides.{nat_tests, eqb_tells}
-use Rattle.region_run.proofs.Hearing.{run_to, heard_same, handed_none, hears_none, hears_then}
+use Rattle.region_run.proofs.Hearing.{run_to, heard_same, flushed_heard, handed_none, hears_none, hears_then}
 
 -- parts of a turn, one after the other
 
@@ -192,7 +192,7 @@ flushed_line None (Some t) f = absurd f
 flushed_line (Some s) None f = absurd f
 flushed_line (Some s) (Some t) f = flushed_ring s.ends t.ends s.outbox t.outbox f.ring
 
-ring_turned : (e m f : Option Ends) (ops : List Op) (asks : ℕ) (box box' : List Op) → RingHeard e ops asks m → RingFlushed m box box' f → RingTurned e box' ops asks f
+ring_turned : (e m f : Option Ends) (ops : List Op) (asks : ℕ) (box box' : List Op) → RingExchanged e ops asks m → RingFlushed m box box' f → RingTurned e box' ops asks f
 ring_turned None None None ops asks box box' h g = h
 ring_turned None None (Some f) ops asks box box' h g = absurd g
 ring_turned None (Some m) f ops asks box box' h g = absurd h
@@ -200,26 +200,58 @@ ring_turned (Some e) None f ops asks box box' h g = absurd h
 ring_turned (Some e) (Some m) None ops asks box box' h g = absurd g
 ring_turned (Some e) (Some m) (Some f) ops asks box box' h g =
     let inn = g.0.inn in
-    let out = h.out in
-    let known : length e.out.sent + e.out.free ≡ length m.out.sent + m.out.free = ap (λ (o : OutView). length o.sent + o.free) (sym out) in
     record {
-      out_ring = g.0.ring ∙ ap (λ (o : OutView). o.ring) out;
-      in_ring = ap (λ (i : InView). i.ring) inn ∙ h.ring;
-      out_slots = g.0.slots ∙ ap (λ (o : OutView). o.slots) out;
-      in_slots = ap (λ (i : InView). i.slots) inn ∙ h.slots;
+      out_ring = g.0.ring ∙ h.out_ring;
+      in_ring = ap (λ (i : InView). i.ring) inn ∙ h.in_ring;
+      out_slots = g.0.slots ∙ h.out_slots;
+      in_slots = ap (λ (i : InView). i.slots) inn ∙ h.in_slots;
       received = ap (λ (i : InView). i.received) inn ∙ h.received;
       asked = ap (λ (i : InView). i.asked) inn ∙ h.asked;
-      free = omega (arith, known, g.0.free);
-      sent = elim g.1 [ inl none ↦ inl none | inr much ↦ inr (omega (arith, known, much)) ];
+      free = omega (arith, h.free, g.0.free);
+      sent = elim g.1 [ inl none ↦ inl none | inr much ↦ inr (omega (arith, h.free, much)) ];
     }
 
-turned : (o m t : Option SideView) (ops : List Op) (asks : ℕ) → Heard o ops asks m → Flushed m t → Turned o ops asks t
+turned : (o m t : Option SideView) (ops : List Op) (asks : ℕ) → Exchanged o ops asks m → Flushed m t → Turned o ops asks t
 turned None None None ops asks h f = h
 turned None None (Some t) ops asks h f = absurd f
 turned None (Some m) t ops asks h f = absurd h
 turned (Some s) None t ops asks h f = absurd h
 turned (Some s) (Some m) None ops asks h f = absurd f
 turned (Some s) (Some m) (Some t) ops asks h f = record { other = f.other ∙ h.other; ring = ring_turned s.ends m.ends t.ends ops asks m.outbox t.outbox h.ring f.ring }
+
+flushed_room : (o t : Option SideView) (m : ℕ) → Flushed o t → HasRoom m o → HasRoom m t
+flushed_room None None m f h = tt
+flushed_room None (Some t) m f h = absurd f
+flushed_room (Some s) None m f h = absurd f
+flushed_room (Some s) (Some t) m f h = omega (arith, h, f.room)
+
+-- A region sent what its rings took.
+module _ (r : Region) (first second : Option SideView) (f1 : Flushed r.first first) (f2 : Flushed r.second second) where
+  same_first : (l : ℕ) → is_other first l ≡ is_other r.first l
+  same_first = flushed_other r.first first f1
+
+  same_second : (l : ℕ) → is_other second l ≡ is_other r.second l
+  same_second = flushed_other r.second second f2
+
+  pub flushed_spare : (m : ℕ) → HasSpare m r → HasSpare m (record r { first = first; second = second })
+  flushed_spare m h = record { timeline = h.timeline; changes = h.changes; stacks = h.stacks; first = flushed_room r.first first m f1 h.first; second = flushed_room r.second second m f2 h.second }
+
+  pub flushed_end : (n : Network) (b : Bands) (until : ℕ) (x : Base) → IsAtEnd n b until x r → IsAtEnd n b until x (record r { first = first; second = second })
+  flushed_end n b until x h = (subst (HasNoEntry (world_at n b until x) x.surface.sites r.id) (sym (same_parts n b until x r first second same_first same_second)) h.0, h.1)
+
+  flushed_hears : (n : Network) (b : Bands) (until : ℕ) (x : Base) → IsRegion n b until x r → Hears n b until x r 0 0 [] (record r { first = first; second = second })
+  flushed_hears n b until x g =
+      record {
+        run = run_to n b until x r r [] first second r.totals same_first same_second (flushed_line r.first first f1) (flushed_line r.second second f2) g (run_none n b until x r g);
+        ops1 = [];
+        ops2 = [];
+        first = flushed_heard r.first first f1;
+        second = flushed_heard r.second second f2;
+        takes = handed_none r.first r.second;
+      }
+
+  pub works_sent : (n : Network) (b : Bands) (until : ℕ) (x : Base) → IsRegion n b until x r → Works n b until x 0 r 0 0 0 (record r { first = first; second = second })
+  works_sent n b until x g = record { steps = []; asks1 = 0; asks2 = 0; hears = flushed_hears n b until x g; adds = refl; takes = refl; few = omega arith; asked = λ h. (omega arith, omega arith) }
 
 -- a turn
 

@@ -1,5 +1,5 @@
 -- What a region has of a neighbour.
-use Rattle.std.specs.Prelude.{◌≡◌, ℕ, zero, suc, ◌+◌, ◌≤◌, ◌==◌, ◌&&◌, ◌||◌, min, Bool, false, List, [], ◌∷◌, ◌++◌, Option, Some, None, if◌then◌else◌}
+use Rattle.std.specs.Prelude.{◌≡◌, ℕ, zero, suc, ◌+◌, ◌≤◌, ◌==◌, ◌&&◌, ◌||◌, min, Bool, false, List, [], ◌∷◌, ◌++◌, length, Option, Some, None, if◌then◌else◌}
 use Rattle.surf_kinds.specs.declared.event.Event.{Event}
 use Rattle.surf_kinds.specs.declared.event.Key.{Key}
 use Rattle.surf_kinds.specs.Keys.{key_of, keep, from}
@@ -82,16 +82,32 @@ RingHeard (Some e) ops asks (Some f) = EndsHeard e ops asks f
 RingHeard None ops asks (Some f) = ⊥
 RingHeard (Some e) ops asks None = ⊥
 
-pub record SideHeard (s : SideView) (ops : List Op) (asks : ℕ) (t : SideView) : Type 0 where
+-- The in end handed out these messages while it was asked so often. Each slot that was known to be free before the out end is so still, or a message was sent into it.
+pub record EndsExchanged (e : Ends) (ops : List Op) (asks : ℕ) (f : Ends) : Type 0 where
+  pub out_ring : f.out.ring ≡ e.out.ring
+  pub in_ring : f.inn.ring ≡ e.inn.ring
+  pub out_slots : f.out.slots ≡ e.out.slots
+  pub in_slots : f.inn.slots ≡ e.inn.slots
+  pub received : f.inn.received ≡ e.inn.received ++ ops
+  pub asked : f.inn.asked ≡ asked_after e.inn.asked asks
+  pub free : length e.out.sent + e.out.free ≤ length f.out.sent + f.out.free
+
+abbrev pub RingExchanged : Option Ends → List Op → ℕ → Option Ends → Type 0
+RingExchanged None ops asks None = ops ≡ []
+RingExchanged (Some e) ops asks (Some f) = EndsExchanged e ops asks f
+RingExchanged None ops asks (Some f) = ⊥
+RingExchanged (Some e) ops asks None = ⊥
+
+pub record SideExchanged (s : SideView) (ops : List Op) (asks : ℕ) (t : SideView) : Type 0 where
   pub other : t.other ≡ s.other
-  pub ring : RingHeard s.ends ops asks t.ends
+  pub ring : RingExchanged s.ends ops asks t.ends
 
 -- the same where there may be no neighbour
-abbrev pub Heard : Option SideView → List Op → ℕ → Option SideView → Type 0
-Heard None ops asks None = ops ≡ []
-Heard (Some s) ops asks (Some t) = SideHeard s ops asks t
-Heard None ops asks (Some t) = ⊥
-Heard (Some s) ops asks None = ⊥
+abbrev pub Exchanged : Option SideView → List Op → ℕ → Option SideView → Type 0
+Exchanged None ops asks None = ops ≡ []
+Exchanged (Some s) ops asks (Some t) = SideExchanged s ops asks t
+Exchanged None ops asks (Some t) = ⊥
+Exchanged (Some s) ops asks None = ⊥
 
 -- The ring was asked once, and handed out this message; all else is as it was.
 pub record SideAsked (s : SideView) (o : Option Op) (t : SideView) : Type 0 where

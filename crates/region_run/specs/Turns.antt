@@ -6,7 +6,7 @@ use Rattle.regions.specs.Bands.{Bands}
 use Rattle.border.specs.declared.op.Op.{Op}
 use Rattle.warp_core.specs.World.{end_key}
 use Rattle.warp_core.specs.Parts.{PartStep, IsNextEntry, HasNoEntry, run_takes}
-use Rattle.region_run.specs.Sides.{SideView, is_other, asked_after, Heard}
+use Rattle.region_run.specs.Sides.{SideView, is_other, asked_after, Exchanged}
 use Rattle.region_run.specs.Regions.{Base, world_at, part_of, line_to, ends_with}
 use Rattle.region_run.specs.Runs.{MakesRun}
 use Rattle.region_run.specs.Counts.{added_in, taken_in, cut_in}
@@ -18,13 +18,13 @@ use Rattle.region_run.specs.declared.totals.Turn.{Turn}
 abbrev pub handed_out : Option SideView → Option SideView → List Op → List Op → ℕ → List Op
 handed_out first second ops1 ops2 l = if is_other first l then ops1 else (if is_other second l then ops2 else [])
 
--- From old to new the region took what its rings handed out, while each was asked so often.
+-- From old to new the region took what its rings handed out, while each was asked so often; it may have sent messages.
 pub record Hears (n : Network) (b : Bands) (until : ℕ) (x : Base) (old : Region) (asks1 asks2 : ℕ) (steps : List PartStep) (new : Region) : Type 0 where
   pub run : MakesRun n b until x old steps new
   pub ops1 : List Op
   pub ops2 : List Op
-  pub first : Heard old.first ops1 asks1 new.first
-  pub second : Heard old.second ops2 asks2 new.second
+  pub first : Exchanged old.first ops1 asks1 new.first
+  pub second : Exchanged old.second ops2 asks2 new.second
   pub takes : (l : ℕ) → run_takes steps l ≡ handed_out old.first old.second ops1 ops2 l
 
 -- the counts of a turn are those of its steps

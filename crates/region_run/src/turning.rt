@@ -114,8 +114,9 @@ impl Region {
         taken
     }
 
-    /// Takes messages until both rings are empty, or so many are taken, and then adds the next entry. Answers how many
-    /// messages were taken, and whether there was an entry; where there was none, the clock is the end key.
+    /// Takes messages until both rings are empty, or so many are taken, adds the next entry, and sends what the rings
+    /// take: so a neighbour hears of it while its own turn lasts. Answers how many messages were taken, and whether there
+    /// was an entry; where there was none, the clock is the end key.
     fn add_one(&mut self, plan: &Plan, cut: &Cut, most: u64, until: u64) -> (u64, bool)
         requires region { (x : Base) × IsRegion plan.now cut.now until x self.old }
         requires spare { HasSpare (most + 1) self.old }
@@ -127,6 +128,8 @@ impl Region {
     {
         let taken = self.hear(plan, cut, most);
         let made = self.step(plan, cut, until);
+        flush_side(&mut self.first);
+        flush_side(&mut self.second);
         (taken, made)
     }
 

@@ -1,6 +1,6 @@
 use Rattle.std.proofs.Common.{◌+◌, arith, if◌then◌else◌}
 use Rattle.region_run.proofs.Spares.{less}
-use Rattle.region_run.proofs.Works.{works_then, works_on, on_to_end}
+use Rattle.region_run.proofs.Works.{works_then, works_on, works_sent, on_to_end, flushed_end, flushed_spare}
 use Rattle.region_run.proofs.region.Region.add_one.Goals as goal
 
 pub hear-taken-requires-clause-region : goal.hear-taken-requires-clause-region
@@ -17,14 +17,27 @@ step-made-requires-clause-spare c = c.hear-taken.ensures.spare 1 (less (c.args.m
 
 pub returns-clause-works : goal.returns-clause-works
 returns-clause-works c x g =
-    let heard = c.hear-taken.ensures.works c.args.until x g in
-    works_then c.args.plan.now c.args.cut.now c.args.until x c.args.self.now c.hear-taken.new.self c.step-made.new.self c.args.most 0 c.hear-taken.result 1 0 (if c.step-made.result then 1 else 0) 0 0 c.args.most (if c.step-made.result then 1 else 0) c.hear-taken.result 1
-    g (omega arith) (omega arith) c.hear-taken.ensures.few (λ p q h1 h2 h. omega (arith, h1, h)) heard
-    (works_on c.args.plan.now c.args.cut.now c.args.until x c.hear-taken.new.self c.step-made.new.self c.step-made.result heard.hears.run.region (c.step-made.ensures.steps x heard.hears.run.region) c.step-made.ensures.rings)
+    let n = c.args.plan.now in
+    let b = c.args.cut.now in
+    let u = c.args.until in
+    let r = c.args.self.now in
+    let mid = c.hear-taken.new.self in
+    let last = c.step-made.new.self in
+    let heard = c.hear-taken.ensures.works u x g in
+    let made = works_on n b u x mid last c.step-made.result heard.hears.run.region (c.step-made.ensures.steps x heard.hears.run.region) c.step-made.ensures.rings in
+    let both = works_then n b u x r mid last c.args.most 0 c.hear-taken.result 1 0 (if c.step-made.result then 1 else 0) 0 0 c.args.most (if c.step-made.result then 1 else 0) c.hear-taken.result 1
+    g (omega arith) (omega arith) c.hear-taken.ensures.few (λ p q h1 h2 h. omega (arith, h1, h)) heard made in
+    works_then n b u x r last _ c.args.most (if c.step-made.result then 1 else 0) c.hear-taken.result 1 0 0 0 0 c.args.most (if c.step-made.result then 1 else 0) c.hear-taken.result 1
+    g (omega arith) (omega arith) c.hear-taken.ensures.few (λ p q h1 h2 h. omega (arith, h1, h)) both
+    (works_sent last c.flush_side.new.side c.flush_side-2.new.side c.flush_side.ensures c.flush_side-2.ensures n b u x both.hears.run.region)
 
 pub returns-clause-end : goal.returns-clause-end
 returns-clause-end c x g e =
-    on_to_end c.args.plan.now c.args.cut.now c.args.until x c.hear-taken.new.self c.step-made.new.self c.step-made.result (c.step-made.ensures.steps x (c.hear-taken.ensures.works c.args.until x g).hears.run.region) e
+    let heard = c.hear-taken.ensures.works c.args.until x g in
+    flushed_end c.step-made.new.self c.flush_side.new.side c.flush_side-2.new.side c.flush_side.ensures c.flush_side-2.ensures c.args.plan.now c.args.cut.now c.args.until x
+    (on_to_end c.args.plan.now c.args.cut.now c.args.until x c.hear-taken.new.self c.step-made.new.self c.step-made.result (c.step-made.ensures.steps x heard.hears.run.region) e)
 
 pub returns-clause-spare : goal.returns-clause-spare
-returns-clause-spare c m h = c.step-made.ensures.spare m (c.hear-taken.ensures.spare (m + 1) (less (m + (c.hear-taken.result + 1)) (m + 1 + c.hear-taken.result) c.args.self.now (omega arith) h))
+returns-clause-spare c m h =
+    flushed_spare c.step-made.new.self c.flush_side.new.side c.flush_side-2.new.side c.flush_side.ensures c.flush_side-2.ensures m
+    (c.step-made.ensures.spare m (c.hear-taken.ensures.spare (m + 1) (less (m + (c.hear-taken.result + 1)) (m + 1 + c.hear-taken.result) c.args.self.now (omega arith) h)))
