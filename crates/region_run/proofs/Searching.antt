@@ -1,12 +1,15 @@
--- The first event of a stack from a key on, by where the events below the key end.
-use Rattle.std.proofs.Common.{◌≡◌, ℕ, zero, suc, ◌<◌, true, false, List, [], ◌∷◌, length, refl, ap, ◌∙◌, arith, Some, None}
+-- The first event from a key on, in a stack and in a timeline, by where the events below the key end.
+use Rattle.std.proofs.Common.{◌≡◌, ℕ, zero, suc, ◌<◌, true, false, List, [], ◌∷◌, length, drop, refl, sym, ap, ◌∙◌, arith, Some, None}
 use Rattle.std.specs.Prelude.{not, slice_index_or}
-use Rattle.std.specs.List.Sorted.{IsPartitionedBy}
+use Rattle.std.specs.List.Sorted.{IsPartitionedBy, IsPartitionPoint}
+use Rattle.std.proofs.lemmas.List.{get_or-map, length-map}
 use Rattle.surf_kinds.specs.declared.event.Event.{Event}
 use Rattle.surf_kinds.specs.declared.event.Key.{Key}
 use Rattle.surf_kinds.specs.Keys.{is_before, key_of, from, AllKeys, IsRising, ◌is_below◌}
 use Rattle.surf_kinds.proofs.Order.{lt_lt}
 use Rattle.surf_kinds.proofs.Tables.{keep_yes, keep_no}
+use Rattle.timeline.specs.declared.entry.Entry.{Entry}
+use Rattle.timeline.specs.TimelineView.{events_of, entry_key}
 use Rattle.region_run.specs.Choices.{first_of}
 
 key_at : (P : Key → Type 0) (es : List Event) (j : ℕ) (d : Event) → AllKeys P es → j < length es → P (key_of (slice_index_or es j d))
@@ -31,3 +34,23 @@ first_at k (e ∷ es) (suc i) d early within late =
 pub first_none : (k : Key) (es : List Event) (d : Event) → ((j : ℕ) → j < length es → is_before (key_of (slice_index_or es j d)) k ≡ true) → first_of (from k es) ≡ None
 first_none k [] d early = refl
 first_none k (e ∷ es) d early = ap first_of (keep_no (λ j. not (is_before j k)) e es (ap not (early zero (omega arith)))) ∙ first_none k es d (λ j h. early (suc j) (omega (arith, h)))
+
+-- the same of entries
+
+event_at : (es : List Entry) (j : ℕ) (d : Entry) → j < length es → slice_index_or (events_of es) j d.before.event ≡ (slice_index_or es j d).before.event
+event_at es j d within = get_or-map (λ e. e.before.event) es j d d.before.event within
+
+pub entry_parts : (k : Key) (es : List Entry) → IsRising (events_of es) → IsPartitionedBy (λ e. is_before (entry_key e) k) es
+entry_parts k es r i j d le within h =
+    let many : length (events_of es) ≡ length es = length-map es (λ e. e.before.event) in
+    let late = ap (λ e. is_before (key_of e) k) (event_at es j d within) in
+    let early = ap (λ e. is_before (key_of e) k) (event_at es i d (omega (arith, le, within))) in
+    sym early ∙ parts k (events_of es) r i j d.before.event le (omega (arith, many, within)) (late ∙ h)
+
+pub from_point : (k : Key) (es : List Entry) (i : ℕ) → IsPartitionPoint (λ e. is_before (entry_key e) k ≡ true) (λ e. is_before (entry_key e) k ≡ false) es i → from k (events_of es) ≡ from k (events_of (drop i es))
+from_point k [] zero p = refl
+from_point k [] (suc i) p = refl
+from_point k (e ∷ es) zero p = refl
+from_point k (e ∷ es) (suc i) p =
+    keep_no (λ j. not (is_before j k)) e.before.event (events_of es) (ap not (p.0 0 e (omega arith) (omega arith)))
+    ∙ from_point k es i ((λ j d lo hi. p.0 (suc j) d (omega arith) (omega (arith, hi))), (λ j d lo hi. p.1 (suc j) d (omega (arith, lo)) (omega (arith, hi))))

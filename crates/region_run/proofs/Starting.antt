@@ -89,7 +89,7 @@ not_true : (t : Bool) → (t ≡ true → ⊥) → t ≡ false
 not_true true h = absurd (h refl)
 not_true false h = refl
 
-module _ (n : Network) (b : Bands) (id : ℕ) (start now : SurfaceView) (timeline : TimelineView) (queue : QueueView) (range : PlaceRange) (undoable : Bool) (changes : Vec Change Global) (stacks : StacksView) (first second : Option SideView) (totals : Totals) (o1 o2 : Option ℕ)
+module _ (n : Network) (b : Bands) (id : ℕ) (start now : SurfaceView) (timeline : TimelineView) (queue : QueueView) (range : PlaceRange) (undoable : Bool) (changes : Vec Change Global) (stacks : StacksView) (first second : Option SideView) (totals : Totals) (gap : List ℕ) (o1 o2 : Option ℕ)
     (cut : IsCut b) (inside : id < b.count) (same : b.lattice ≡ n.lattice) (lattice : start.lattice ≡ n.lattice) (species : All (LeavesWithin start.species_count) n.rules) (fresh : All IsFresh start.sites) (copied : now ≡ start)
     (covers : CoversRange range queue) (up : (k : ℕ) → range.first ≤ k → k < range.end → IsUpToDate n now.sites queue k) (own : IsRangeOf b id range) (alone : undoable ≡ false → b.count ≤ 1) (neighbours : AreNeighbours b id o1 o2)
     (near : (region place : ℕ) → is_told b region place ≡ true → IsNeighbour b (owner_of b place) region) (both : (region other : ℕ) → region < b.count → IsNeighbour b region other → IsNeighbour b other region)
@@ -124,7 +124,7 @@ module _ (n : Network) (b : Bands) (id : ℕ) (start now : SurfaceView) (timelin
       }
 
   abbrev made : Region
-  made = record { id = id; board = record { surface = now; timeline = timeline; queue = queue; range = range; undoable = undoable; changes = changes }; clock = origin; floor = origin; stacks = stacks; first = first; second = second; totals = totals }
+  made = record { id = id; board = record { surface = now; timeline = timeline; queue = queue; range = range; undoable = undoable; changes = changes }; clock = origin; floor = origin; stacks = stacks; first = first; second = second; totals = totals; gap = gap }
 
   no_stack : (l : ℕ) → stack_in first second stacks l ≡ []
   no_stack l = ap (λ s. stack_in first second s l) empty ∙ pick (is_other first l) (is_other second l) [] [] [] refl refl
@@ -145,7 +145,7 @@ module _ (n : Network) (b : Bands) (id : ℕ) (start now : SurfaceView) (timelin
         });
       }
 
-  region : (until : ℕ) → until ≤ 10 ^ 15 → IsRegion n b until (first_base start) (record { id = id; board = record { surface = now; timeline = record { entries = []; spare = 0 }; queue = queue; range = range; undoable = undoable; changes = changes }; clock = origin; floor = origin; stacks = stacks; first = first; second = second; totals = totals })
+  region : (until : ℕ) → until ≤ 10 ^ 15 → IsRegion n b until (first_base start) (record { id = id; board = record { surface = now; timeline = record { entries = []; spare = 0 }; queue = queue; range = range; undoable = undoable; changes = changes }; clock = origin; floor = origin; stacks = stacks; first = first; second = second; totals = totals; gap = gap })
   region until short =
       record {
         floor = refl;
@@ -170,9 +170,9 @@ module _ (n : Network) (b : Bands) (id : ℕ) (start now : SurfaceView) (timelin
         from_second = subst (λ (s : StacksView). AllKeys (λ k. is_other second (owner_of b k.place.0) ≡ true) (stack_of s 1)) (sym empty) tt;
       }
 
-  pub is_first : IsFirst n b id start (record { id = id; board = record { surface = now; timeline = timeline; queue = queue; range = range; undoable = undoable; changes = changes }; clock = origin; floor = origin; stacks = stacks; first = first; second = second; totals = totals })
+  pub is_first : IsFirst n b id start (record { id = id; board = record { surface = now; timeline = timeline; queue = queue; range = range; undoable = undoable; changes = changes }; clock = origin; floor = origin; stacks = stacks; first = first; second = second; totals = totals; gap = gap })
   is_first =
-      subst (λ (t : TimelineView). IsFirst n b id start (record { id = id; board = record { surface = now; timeline = t; queue = queue; range = range; undoable = undoable; changes = changes }; clock = origin; floor = origin; stacks = stacks; first = first; second = second; totals = totals })) (sym none)
+      subst (λ (t : TimelineView). IsFirst n b id start (record { id = id; board = record { surface = now; timeline = t; queue = queue; range = range; undoable = undoable; changes = changes }; clock = origin; floor = origin; stacks = stacks; first = first; second = second; totals = totals; gap = gap })) (sym none)
       (record {
         id_is = refl;
         floor = refl;

@@ -1,10 +1,12 @@
-//! The next entry of a region.
+//! The next entry of a region, and the first one from a key on.
 
-ghost use Rattle.std.specs.Prelude.{◌≡◌};
+ghost use Rattle.std.specs.Prelude.{◌≡◌, drop};
 ghost use Rattle.surf_kinds.specs.Keys.{from, RiseStrictly};
+ghost use Rattle.timeline.specs.TimelineView.{events_of};
 ghost use Rattle.region_run.specs.Choices.{better_of as better_of_two, first_of};
 
 use surf_kinds::{Event, Key};
+use timeline::Entry;
 
 /// The better of two events: of those from the clock on, up to the end, the one of the lesser key.
 pub(crate) fn better_of(
@@ -39,4 +41,12 @@ pub(crate) fn first_from(stack: &[Event], clock: Key) -> Option<Event>
     } else {
         None
     }
+}
+
+/// How many entries come before the first one from a key on. Takes a time that goes with the logarithm of their number.
+pub(crate) fn count_before(entries: &[Entry], key: Key) -> usize
+    requires { RiseStrictly (events_of entries.now) }
+    ensures { from key (events_of entries.now) ≡ from key (events_of (drop result entries.now)) }
+{
+    entries.partition_point(|entry| entry.key().is_before(key))
 }

@@ -15,7 +15,10 @@ use surf_kinds::{Event, Key, NoMemory, Place};
 
 /// A band of rows with a timeline of its own. Each call is a run of steps of the core.
 // The fields are seen in the clauses through `IsRegion` and the definitions beside it; they may be set in this crate alone.
+// In a list of regions each is written by a worker of its own. The fields stand in this order in memory, and the gap at the end keeps
+// what two workers write on different cache lines, of up to 128 bytes.
 #[derive(Drop)]
+#[repr(C)]
 pub struct Region {
     pub(crate) id: u32,
     pub(crate) board: Board,
@@ -26,6 +29,7 @@ pub struct Region {
     pub(crate) first: Option<Side>,
     pub(crate) second: Option<Side>,
     pub(crate) totals: Totals,
+    pub(crate) gap: [u64; 16],
 }
 
 /// Whether the neighbour has this number.

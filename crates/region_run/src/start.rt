@@ -71,6 +71,7 @@ impl Region {
             first: side_of(alloc, neighbours.first),
             second: side_of(alloc, neighbours.second),
             totals: Totals::none(),
+            gap: [0; 16],
         })
     }
 }

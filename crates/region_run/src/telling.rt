@@ -2,12 +2,14 @@
 
 ghost use Rattle.std.specs.Prelude.{◌≡◌, ◌∷◌, [], ◌≤◌, Option, Some, true, Bool};
 ghost use Rattle.border.specs.Messages.{accepted_op, is_lawful as is_lawful_put};
+ghost use Rattle.surf_kinds.specs.Keys.{RiseStrictly};
 ghost use Rattle.lattice.specs.Places.{IsPlace};
 ghost use Rattle.timeline.specs.TimelineView.{events_of};
 ghost use Rattle.warp_core.specs.Grounds.{ArePlaces};
 ghost use Rattle.region_run.specs.Sides.{HasRoom, Gained, Asked, event_puts, is_side_told, first_told_of, back_of};
 ghost use Rattle.region_run.specs.Messages.{partition_at};
 
+use crate::choice::count_before;
 use crate::side::Side;
 use border::Op;
 use plan::Plan;
@@ -39,7 +41,8 @@ pub(crate) fn tell(cut: &Cut, own: bool, side: &mut Option<Side>, event: Event)
     }
 }
 
-/// The key of the first own entry from a key on that one of two neighbours was told of.
+/// The key of the first own entry from a key on that one of two neighbours was told of. Entries before the key aren't
+/// looked at, but for a number that goes with the logarithm of how many there are.
 pub(crate) fn first_told(
     cut: &Cut,
     id: u32,
@@ -48,10 +51,12 @@ pub(crate) fn first_told(
     first: &Option<Side>,
     second: &Option<Side>,
 ) -> Option<Key>
-    requires { ArePlaces cut.now.lattice entries.now }
+    requires places { ArePlaces cut.now.lattice entries.now }
+    requires rise { RiseStrictly (events_of entries.now) }
     ensures { result ≡ first_told_of cut.now id first.now second.now key (events_of entries.now) }
 {
-    for i in 0..entries.len() {
+    let start = count_before(entries, key);
+    for i in start..entries.len() {
         if let Some(here) = told_from(cut, id, &entries[i], key, first, second) {
             return Some(here);
         }

@@ -11,18 +11,18 @@ use Rattle.region_run.proofs.Absorbs.{region_places, cut_late, cut_early}
 use Rattle.region_run.proofs.Spares.{uses_one, less}
 use Rattle.region_run.proofs.region.Region.cut_back.Goals as goal
 
-pub first_told-least-requires : goal.first_told-least-requires
-first_told-least-requires c =
+pub first_told-least-requires-clause-places : goal.first_told-least-requires-clause-places
+first_told-least-requires-clause-places c =
     let w = c.requires.region in
     subst (ArePlaces c.args.cut.now.lattice) (sym c.entries-entries.ensures.entries) (region_places c.args.plan.now c.args.cut.now w.0 w.1 c.args.self.now w.2)
 
-pub first_told-to_first-requires : goal.first_told-to_first-requires
-first_told-to_first-requires c =
+pub first_told-to_first-requires-clause-places : goal.first_told-to_first-requires-clause-places
+first_told-to_first-requires-clause-places c =
     let w = c.requires.region in
     subst (ArePlaces c.args.cut.now.lattice) (sym c.entries-entries.ensures.entries) (region_places c.args.plan.now c.args.cut.now w.0 w.1 c.args.self.now w.2)
 
-pub first_told-to_second-requires : goal.first_told-to_second-requires
-first_told-to_second-requires c =
+pub first_told-to_second-requires-clause-places : goal.first_told-to_second-requires-clause-places
+first_told-to_second-requires-clause-places c =
     let w = c.requires.region in
     subst (ArePlaces c.args.cut.now.lattice) (sym c.entries-entries.ensures.entries) (region_places c.args.plan.now c.args.cut.now w.0 w.1 c.args.self.now w.2)
 
