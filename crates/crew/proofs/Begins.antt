@@ -5,6 +5,7 @@ use Rattle.std.proofs.Common.{◌≤◌, arith}
 use Rattle.std.proofs.Math.Seq.{drop-nil}
 use Rattle.lattice.specs.Surface.{first_surface}
 use Rattle.surface_state.specs.SurfaceView.{SurfaceView}
+use Rattle.surf_kinds.specs.declared.event.Event.{Event}
 use Rattle.surf_kinds.specs.Keys.{is_before, origin, below}
 use Rattle.surf_kinds.proofs.Order.{is_upto_origin}
 use Rattle.surf_kinds.proofs.Tables.{keep_none, all_keys}
@@ -15,6 +16,9 @@ use Rattle.regions.specs.Bands.{IsCut}
 use Rattle.warp_core.specs.Configs.{IsFresh}
 use Rattle.warp_core.proofs.LawLemmas.{first_consistent, fresh_sites}
 use Rattle.region_run.specs.Regions.{Base, IsRegion}
+use Rattle.region_run.specs.Sides.{raised}
+use Rattle.crew.specs.Balances.{AreBalanced}
+use Rattle.crew.proofs.Balances.{first_balanced}
 use Rattle.crew.specs.Crews.{CrewView, IsCrew, IsReady, world_in, core_in, species_of, parts_of, lines_of, got_of, part_if, line_if, base_at}
 use Rattle.crew.specs.Rounds.{AreFirst, AreFirstRegions}
 use Rattle.crew.proofs.Present.{there}
@@ -72,8 +76,12 @@ module _ (v : CrewView) (a : AreFirst v) where
       subst (λ (c : Core). IsConsistent (world_in v) c) (sym (λ e. record { horizon = a.horizon e; committed = none_yet e; part = λ i. part_is i e; channel = λ j i. chan j i e })) (first_consistent (world_in v))
 
 -- a crew at its start, with a quota that a turn may have
-pub ready_first : (v : CrewView) → AreFirst v → 1 ≤ v.quota → v.quota ≤ 65536 → v.rounds ≡ 0 → IsReady v
-ready_first v a low high none = record { few = omega (arith, none); fewer = λ _. omega (arith, none); past = λ _. []; base = λ _. v.start; crew = crew_first v a; consistent = consistent_first v a; at_least = low; at_most = high }
+pub ready_first : (v : CrewView) → AreFirst v → 1 ≤ v.quota → v.quota ≤ 65536 → v.rounds ≡ 0 → v.committed ≡ 0 → IsReady v
+ready_first v a low high none no_events = record { few = omega (arith, none); fewer = λ _. omega (arith, none); handed_out = no_events ∙ sym (ap (λ (l : List Event). raised 0 (length l)) (none_yet v a)); balanced = balance; past = λ _. []; base = λ _. v.start; crew = crew_first v a; consistent = consistent_first v a; at_least = low; at_most = high }
+  where
+    balance : AreBalanced v.regions (length (below v.horizon (world_in v).history))
+    balance =
+        subst (AreBalanced v.regions) (sym (ap (λ (l : List Event). length l) (none_yet v a))) (first_balanced v.regions (λ i r at. let f = a.regions.each i r at in (f.totals, f.timeline)))
 
 -- what a crew is made of is at its start
 pub are_first : (v : CrewView) (s : SurfaceView) → v.start ≡ s → v.horizon ≡ origin → All IsFresh s.sites → IsCut v.bands → v.bands.lattice ≡ v.network.lattice → v.until ≤ 10 ^ 15 → AreFirstRegions v.network v.bands s v.regions → AreFirst v

@@ -1,6 +1,7 @@
 -- A crew that commits at the least clock.
 use Rattle.std.proofs.Common.{◌≡◌, ◌≢◌, ℕ, ◌<◌, ◌≤◌, inl, inr, ◌⊎◌, List, [], ◌∷◌, ◌+◌, length, drop, refl, sym, ap, ◌∙◌, subst, arith, Option, Some, None, cond, ◌==◌, slice_index_or}
 use Rattle.std.specs.Prelude.{slice_get, map, IsPermutation}
+use Rattle.std.proofs.lemmas.List.Sorted.{length_permutation}
 use Rattle.std.proofs.lemmas.Option.{slice_get-get_or, slice_get_within, get_or_from_slice_get}
 use Rattle.surf_kinds.specs.declared.event.Event.{Event}
 use Rattle.surf_kinds.specs.declared.event.Key.{Key}
@@ -19,6 +20,8 @@ use Rattle.region_run.specs.Regions.{Base, part_of, line_to, ends_with, is_own_k
 use Rattle.crew.specs.Crews.{CrewView, IsCrew, IsReady, world_in, core_in, rest_of, turns_of, base_at}
 use Rattle.crew.specs.Calls.{ChangesEach, IsOwnBelow, AreOwnBelow, IsGathered, MayForget, Forgets, IsUptoClock, IsClockOf}
 use Rattle.crew.specs.Rounds.{AllCommitted, AreOwnLists, IsLeastOf}
+use Rattle.crew.specs.Balances.{AreBalanced}
+use Rattle.crew.proofs.Balances.{forgot, forgot_balanced, handed_length}
 use Rattle.crew.proofs.Present.{member, laws}
 use Rattle.crew.proofs.Lists.{each_changed, each_turns}
 use Rattle.crew.proofs.Commits as commits
@@ -112,6 +115,19 @@ module _ (v : CrewView) (ready : IsReady v) (k : Key) (least : (i : ℕ) (d : Re
           ends = λ i r t a b l. ap (λ x. ends_with x l) (forgets i r t a b).same;
         }
 
+    -- so many events are below the new horizon
+    handed_more : (events : List Event) → IsGathered k v.regions events → length (below v.horizon (world_in v).history) + length events ≡ length (below k (world_in v).history)
+    handed_more events g =
+        ap (λ (l : List Event). length (below v.horizon (world_in v).history) + length l) (handed_then events g) ∙ handed_length v.horizon k (world_in v).history may.from_horizon
+
+    balance : (events : List Event) (g : IsGathered k v.regions events) → AreBalanced rs' (length (below v.horizon (world_in v).history) + length events)
+    balance events g =
+        subst (λ n. AreBalanced rs' (length (below v.horizon (world_in v).history) + n)) (sym (length_permutation (all_events g.lists) events g.all))
+        (forgot_balanced k v.regions rs' g.lists _ g.own c
+        (λ i n r t at mine f bal.
+        forgot n v.network v.bands v.until (base_at v ready.past ready.base i) k r t (slice_index_or g.lists i []) (ready.crew.region i r at).0 may.from_horizon
+        (subst (λ (x : Region). k is_upto x.clock) (get_or_from_slice_get v.regions i r r at) (least i r (slice_get_within v.regions i r at)).is) mine f bal) ready.balanced)
+
     pub commit_ready : (rounds committed : ℕ) (events : List Event) → IsGathered k v.regions events → rounds ≡ raised v.rounds 1 → committed ≡ raised v.committed (length events) → v.horizon ≢ end_key (world_in v)
         → IsReady (record v { horizon = k; rounds = rounds; committed = committed; regions = rs' })
     commit_ready rounds committed events g more counted unfinished =
@@ -125,6 +141,8 @@ module _ (v : CrewView) (ready : IsReady v) (k : Key) (least : (i : ℕ) (d : Re
           at_most = ready.at_most;
           few = few_more v.rounds v.committed (length events) rounds committed (ready.fewer unfinished) more counted;
           fewer = λ n. fewer_more v.rounds v.committed events rounds committed (ready.fewer unfinished) more counted (λ none. n (some_then events g none));
+          handed_out = counted ∙ omega (arith, ready.handed_out, handed_more events g);
+          balanced = subst (AreBalanced rs') (handed_more events g ∙ refl) (balance events g);
         }
 
     pub commit_empty : AreEmpty (world_in v) (core_in (record v { horizon = k; regions = rs' }))

@@ -8,7 +8,9 @@ pub mod Deliveries
 pub mod Commits
 pub mod Work
 pub mod Lists
+pub mod Balances
 pub mod Ready
+pub mod Finished
 pub mod Working
 pub mod Committed
 pub mod Clocks

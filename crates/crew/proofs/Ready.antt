@@ -5,6 +5,7 @@ use Rattle.std.proofs.Common.{Ok, Err, ◌+◌, ◌≤◌}
 use Rattle.std.proofs.lemmas.Bool.{cases_Bool}
 use Rattle.std.proofs.lemmas.Option.{slice_get-get_or}
 use Rattle.surf_kinds.specs.declared.status.NoMemory.{NoMemory}
+use Rattle.surf_kinds.specs.Keys.{below}
 use Rattle.plan.specs.Network.{Network}
 use Rattle.regions.specs.Bands.{Bands}
 use Rattle.warp_core.specs.World.{IsWorld}
@@ -28,6 +29,8 @@ use Rattle.crew.specs.Calls.{ChangesOne, ChangesTwo, MakesRoom, MayStepOne, HasS
 use Rattle.crew.specs.Rounds.{IsOne, IsTwo, Stepped}
 use Rattle.crew.proofs.Lists.{one_changed, two_changed, one_turns, two_turns}
 use Rattle.crew.proofs.Present.{laws}
+use Rattle.crew.specs.Balances.{AreBalanced}
+use Rattle.crew.proofs.Balances.{one_balanced, two_balanced, same_balance, gave, given as given_balance, stepped as stepped_balance}
 use Rattle.crew.proofs.Steps as steps
 use Rattle.crew.proofs.Deliveries as deliveries
 
@@ -37,8 +40,10 @@ rest_is v rs' same = λ e. (record v { regions = [] }, same e)
 pub rest_world : (a b : CrewView) → rest_of a ≡ rest_of b → world_in a ≡ world_in b
 rest_world a b e = ap (λ (p : CrewView × List (ℕ × Turn)). world_in p.0) e
 
-pub ready_with : (v : CrewView) (ready : IsReady v) (rs' : List Region) → IsCrew (record v { regions = rs' }) ready.past ready.base → IsConsistent (world_in v) (core_in (record v { regions = rs' })) → IsReady (record v { regions = rs' })
-ready_with v ready rs' crew good = record { past = ready.past; base = ready.base; crew = crew; consistent = good; at_least = ready.at_least; at_most = ready.at_most; few = ready.few; fewer = ready.fewer }
+pub ready_with : (v : CrewView) (ready : IsReady v) (rs' : List Region) → IsCrew (record v { regions = rs' }) ready.past ready.base → IsConsistent (world_in v) (core_in (record v { regions = rs' }))
+    → AreBalanced rs' (length (below v.horizon (world_in v).history)) → IsReady (record v { regions = rs' })
+ready_with v ready rs' crew good balanced =
+    record { past = ready.past; base = ready.base; crew = crew; consistent = good; at_least = ready.at_least; at_most = ready.at_most; few = ready.few; fewer = ready.fewer; handed_out = ready.handed_out; balanced = balanced }
 
 -- the same rings
 side_other : (s t : Option SideView) → SameSide s t → (l : ℕ) → is_other t l ≡ is_other s l
@@ -97,6 +102,7 @@ module _ (v : CrewView) (ready : IsReady v) where
     room_ready =
         ready_with v ready rs' (steps.same_crew v ready.past ready.base ready.crew rs' i roomed.0 roomed.1 roomed.2 roomed.3.made.same)
         (subst (λ (k : Core). IsConsistent (world_in v) k) (sym room_core) ready.consistent)
+        (one_balanced v.regions rs' i roomed.0 roomed.1 _ roomed.2 (λ m. same_balance m roomed.0 roomed.1 roomed.3.made.totals roomed.3.made.same.part) ready.balanced)
 
     pub room_rest : rest_of (record v { regions = rs' }) ≡ rest_of v
     room_rest = rest_is v rs' (one_turns v.regions rs' i roomed.0 roomed.1 roomed.2 (ap (λ (x : Totals). (x.turns, x.last_turn)) roomed.3.made.totals))
@@ -140,6 +146,12 @@ module _ (v : CrewView) (ready : IsReady v) where
       deliveries.none_before v ready.past ready.base ready.crew rs' from to given.0 given.1 given.2 given.3 given.4 (given.5.none e),
     )
 
+    balance : AreBalanced rs' (length (below v.horizon (world_in v).history))
+    balance =
+        two_balanced v.regions rs' from to given.0 given.1 given.2 given.3 _ given.4
+        (λ m. gave m v.network v.bands v.until (base_at v ready.past ready.base to) done given.0 given.1 given.2 given.3 region given.5)
+        (λ m. given_balance m v.network v.bands v.until (base_at v ready.past ready.base to) done given.0 given.1 given.2 given.3 region given.5) ready.balanced
+
     pub give_ready : IsReady (record v { regions = rs' })
     give_ready =
         elim (cases_Bool done) [
@@ -147,16 +159,18 @@ module _ (v : CrewView) (ready : IsReady v) where
               ready_with v ready rs'
               (deliveries.delivered_crew v ready.past ready.base ready.crew rs' from to given.0 given.1 given.2 given.3 given.4 (given.5.one e v.until (base_at v ready.past ready.base to) region))
               (step_keeps (world_in v) world (core_in v) (core_in (record v { regions = rs' })) (Step.Take from to) ready.consistent (give_done e))
+              balance
           | inr e ↦
               ready_with v ready rs' (deliveries.none_crew v ready.past ready.base ready.crew rs' from to given.0 given.1 given.2 given.3 given.4 (given.5.none e))
               (subst (λ (k : Core). IsConsistent (world_in v) k) (sym (give_none e).0) ready.consistent)
+              balance
         ]
 
     pub give_rest : rest_of (record v { regions = rs' }) ≡ rest_of v
     give_rest =
         rest_is v rs'
         (two_turns v.regions rs' from to given.0 given.1 given.2 given.3 given.4 (ap (λ (x : Totals). (x.turns, x.last_turn)) given.5.sender_totals)
-        (elim given.5.totals [ inl e ↦ ap (λ (x : Totals). (x.turns, x.last_turn)) e | inr e ↦ ap (λ (x : Totals). (x.turns, x.last_turn)) e.1 ]))
+        (elim (cases_Bool done) [ inl e ↦ ap (λ (x : Totals). (x.turns, x.last_turn)) (given.5.totals e).1 | inr e ↦ ap (λ (x : Totals). (x.turns, x.last_turn)) (given.5.no_totals e) ]))
 
   -- a region may make a step
   pub may_step : (i : ℕ) → i < v.bands.count → ((d : Region) → HasSpare 1 (slice_index_or v.regions i d)) → (d : Region) → MayStepOne v.network v.bands v.until (slice_index_or v.regions i d)
@@ -187,6 +201,8 @@ module _ (v : CrewView) (ready : IsReady v) where
           | inl s ↦ step_keeps (world_in v) world (core_in v) (core_in (record v { regions = rs' })) (Step.Fire i) ready.consistent s
           | inr s ↦ step_keeps (world_in v) world (core_in v) (core_in (record v { regions = rs' })) (Step.Pass i) ready.consistent s
         ])
+        (one_balanced v.regions rs' i went.0 went.1 _ went.2
+        (λ m. stepped_balance m v.network v.bands v.until (base_at v ready.past ready.base i) went.0 went.1 (ready.crew.region i went.0 went.2.old_at).0 went.3) ready.balanced)
 
     pub step_rest : rest_of (record v { regions = rs' }) ≡ rest_of v
     step_rest = rest_is v rs' (one_turns v.regions rs' i went.0 went.1 went.2 (step_turns went.0 went.1 went.3.answer went.3.totals))

@@ -25,6 +25,7 @@ use Rattle.crew.specs.Calls.{ChangesTwo, ChangesEach, HasRoomMade, MayTurn, HasT
 use Rattle.crew.specs.Rounds.{IsTwo, Worked, AllWorked, IsWhole, HaveWorked}
 use Rattle.crew.proofs.Fronts.{tied_back}
 use Rattle.crew.proofs.Lists.{two_changed, each_changed, both_there, all_at, each_turns}
+use Rattle.crew.proofs.Balances.{each_balanced, same_balance, turned as turned_balance}
 use Rattle.crew.proofs.Ready.{rest_is, ready_with}
 use Rattle.crew.proofs.Work.{turn_worked, same_number}
 use Rattle.crew.proofs.Joins.{crew_joined, consistent_joined}
@@ -311,6 +312,11 @@ module _ (v : CrewView) (ready : IsReady v) where
 
       pub work_ready : IsReady (record v { regions = rs2 })
       work_ready = ready_with v ready rs2 (crew_joined v ready.past ready.base rs2 ready.crew all_worked) (consistent_joined v ready.past ready.base rs2 ready.crew all_worked ready.consistent)
+          (each_balanced v.regions rs2 _ (seen.len ∙ turned.len)
+          (λ i n r t a b bal.
+          let m = mid i r t a b in
+          let q = turn_at i r m.0 a m.1 in
+          same_balance n m.0 t m.2.totals m.2.part (turned_balance n r m.0 q.answer q.totals (is_turn i r m.0 a m.1).length bal)) ready.balanced)
 
       whole_of : (x : Base) (r t : Region) (turn : Turn) → IsTurn v.network v.bands v.until x v.quota r t turn → IsWhole v.quota turn
       whole_of x r t turn h =
@@ -386,6 +392,7 @@ module _ (v : CrewView) (ready : IsReady v) where
           ties = λ a b n. subst (λ x. AreTied x (ends_of rs' b a)) (sym (same_ends a b)) (subst (λ x. AreTied (ends_of v.regions a b) x) (sym (same_ends b a)) (ready.crew.ties a b n));
         })
         (subst (λ (k : Core). IsConsistent (world_in v) k) (sym prepared_core) ready.consistent)
+        (each_balanced v.regions rs' _ made.len (λ i n r t a b bal. let m = made_at i r t a b in same_balance n r t m.totals m.same.part bal) ready.balanced)
 
     pub prepared_rest : rest_of (record v { regions = rs' }) ≡ rest_of v
     prepared_rest = rest_is v rs' (each_turns v.regions rs' made.len (λ i r t a b. ap (λ (x : Totals). (x.turns, x.last_turn)) (made_at i r t a b).totals))

@@ -1,5 +1,5 @@
 -- What calls on the regions of a crew need, and what they leave.
-use Rattle.std.specs.Prelude.{◌≡◌, ◌≢◌, ◌⊎◌, ℕ, ◌+◌, ◌*◌, ◌<◌, Bool, true, false, List, [], length, All, Option, Some, slice_get, slice_index_or, Result, OnOk, IsPermutation, if◌then◌else◌}
+use Rattle.std.specs.Prelude.{◌≡◌, ◌≢◌, ◌⊎◌, ℕ, ◌+◌, ◌*◌, ◌<◌, Bool, true, false, not, List, [], length, All, Option, Some, slice_get, slice_index_or, Result, OnOk, IsPermutation, if◌then◌else◌}
 use Rattle.surf_kinds.specs.declared.status.NoMemory.{NoMemory}
 use Rattle.surf_kinds.specs.declared.event.Event.{Event}
 use Rattle.surf_kinds.specs.declared.event.Key.{Key}
@@ -70,7 +70,8 @@ pub record Delivers (n : Network) (b : Bands) (done : Bool) (from to : Region) (
   pub none : done ≡ false → IsNoDelivery from to from' to'
   pub one : done ≡ true → (until : ℕ) (x : Base) → IsRegion n b until x to → IsDelivery n b until x from to from' to'
   pub sender_totals : from'.totals ≡ from.totals
-  pub totals : (to'.totals ≡ to.totals) ⊎ ((cut : ℕ) × (to'.totals ≡ with_work to.totals 0 cut) × (cut + length (part_of to').timeline ≡ length (part_of to).timeline))
+  pub no_totals : done ≡ false → to'.totals ≡ to.totals
+  pub totals : done ≡ true → (cut : ℕ) × (to'.totals ≡ with_work to.totals 0 cut) × (cut + length (part_of to').timeline ≡ length (part_of to).timeline)
 
 -- It may make a turn.
 pub record MayTurn (n : Network) (b : Bands) (until : ℕ) (quota : ℕ) (r : Region) : Type 0 where
@@ -141,6 +142,7 @@ pub record Forgets (key : Key) (old new : Region) : Type 0 where
   pub same : new ≡ record old { board = new.board; floor = key; stacks = new.stacks; totals = new.totals }
   pub committed : (n : Network) (b : Bands) (until : ℕ) (x : Base) → IsRegion n b until x old → x.floor is_upto key → key is_upto old.clock → IsCommitted n b until x key old new
   pub totals : (received : ℕ) × (new.totals ≡ with_forgotten old.totals received)
+      × ((n : Network) (b : Bands) (until : ℕ) (x : Base) → IsRegion n b until x old → received ≡ length (keep (λ k. not (is_own_key b old.id k)) (below key (part_of old).timeline)))
 
 -- a key that is at most the clock
 pub record IsUptoClock (key : Key) (r : Region) : Type 0 where

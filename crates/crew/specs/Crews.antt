@@ -19,9 +19,10 @@ use Rattle.warp_core.specs.Cores.{Core, IsConsistent}
 use Rattle.region_run.specs.declared.region.Region.{Region}
 use Rattle.region_run.specs.declared.side.Ends.{Ends}
 use Rattle.region_run.specs.declared.totals.Turn.{Turn}
-use Rattle.region_run.specs.Sides.{received_by}
+use Rattle.region_run.specs.Sides.{received_by, raised}
 use Rattle.region_run.specs.Regions.{Base, part_of, line_to, ends_with, IsRegion}
 use Rattle.region_run.specs.Channels.{AreTied}
+use Rattle.crew.specs.Balances.{AreBalanced}
 
 -- What a crew is made of: what `new` was given, the horizon, how many rounds were made and events handed out, and the regions.
 pub record CrewView : Type 0 where
@@ -123,3 +124,6 @@ pub record IsReady (v : CrewView) : Type 0 where
   -- each round but the last hands out an event at least
   pub few : v.rounds ≤ v.committed + 1
   pub fewer : (v.horizon ≡ end_key (world_in v) → ⊥) → v.rounds ≤ v.committed
+  -- the events below the horizon were handed out, and each was one own entry that its region forgot
+  pub handed_out : v.committed ≡ raised 0 (length (below v.horizon (world_in v).history))
+  pub balanced : AreBalanced v.regions (length (below v.horizon (world_in v).history))

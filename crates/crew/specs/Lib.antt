@@ -1,3 +1,4 @@
+pub mod Balances
 pub mod Crews
 pub mod Calls
 pub mod Rounds

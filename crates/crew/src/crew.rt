@@ -266,10 +266,13 @@ impl Crew {
         self.horizon
     }
 
-    /// What the crew did so far.
+    /// What the crew did so far. When it is finished, `committed` is the number of events of the whole history, and each
+    /// entry that was fired was committed or cancelled.
     pub fn report(&self) -> Report
         ensures counts { result ≡ report_of self.now }
         ensures few { result.rounds ≤ result.committed + 1 }
+        ensures all { self.now.horizon ≡ end_key (world_in self.now) → result.committed ≡ raised 0 (length (world_in self.now).history) }
+        ensures balanced { self.now.horizon ≡ end_key (world_in self.now) → result.fired < 18446744073709551615 → result.fired ≡ result.committed + result.cancelled }
     {
         let sums = Sums::of(&self.regions);
         Report {

@@ -1,5 +1,4 @@
-use Rattle.std.proofs.Common.{◌≡◌, ◌+◌, length, inl, inr, sym, ap, ◌∙◌, arith}
-use Rattle.std.proofs.lemmas.Bool.{cases_Bool}
+use Rattle.std.proofs.Common.{◌≡◌, ◌+◌, length, sym, ap, ◌∙◌, arith}
 use Rattle.std.proofs.lemmas.List.{length-map}
 use Rattle.timeline.specs.declared.entry.Entry.{Entry}
 use Rattle.crew.proofs.members.give.Goals as goal
@@ -9,10 +8,8 @@ returns c = record {
   none = c.deliver.ensures.none;
   one = c.deliver.ensures.one;
   sender_totals = c.deliver.ensures.sender_totals;
-  totals = elim (cases_Bool c.deliver.result) [
-    | inl e ↦
-        let t = c.deliver.ensures.totals e in
-        inr (t.0, t.1, omega (arith, t.2, length-map c.deliver.new.to.board.timeline.entries (λ (x : Entry). x.before.event), length-map c.args.to.now.board.timeline.entries (λ (x : Entry). x.before.event)))
-    | inr e ↦ inl (c.deliver.ensures.no_totals e)
-  ];
+  no_totals = c.deliver.ensures.no_totals;
+  totals = λ e.
+      let t = c.deliver.ensures.totals e in
+      (t.0, t.1, omega (arith, t.2, length-map c.deliver.new.to.board.timeline.entries (λ (x : Entry). x.before.event), length-map c.args.to.now.board.timeline.entries (λ (x : Entry). x.before.event)));
 }
