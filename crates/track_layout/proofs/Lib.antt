@@ -1,0 +1,10 @@
+pub mod Sweeps
+pub mod Ended
+pub mod Steps
+pub mod Placing
+pub mod Crowds
+pub mod Frees
+pub mod Unique
+pub mod Filled
+pub mod Opens
+pub mod Turns
