@@ -1,5 +1,5 @@
 -- What a run begins with, and what its end leaves.
-use Rattle.std.proofs.Common.{◌≡◌, ℕ, ◌*◌, ◌^◌, ◌≤◌, List, [], ◌++◌, length, sym, ap, ◌∙◌, arith, subst}
+use Rattle.std.proofs.Common.{◌≡◌, ℕ, ◌*◌, ◌^◌, ◌≤◌, List, [], ◌++◌, length, refl, sym, ap, ◌∙◌, arith, subst}
 use Rattle.std.specs.Prelude.{Result, Ok, Err, All, IsErrOf}
 use Rattle.std.specs.Io.KnownBytes.{Appends}
 use Rattle.std.proofs.lemmas.List.Elements.{All-map}
@@ -9,19 +9,20 @@ use Rattle.surf_outside.specs.Causes.{Rose}
 use Rattle.surf_outside.specs.Known.{AppendsPrefix}
 use Rattle.surf_outside.proofs.LawLemmas.{prefix_whole}
 use Rattle.lattice.specs.Surface.{fresh, first_surface}
-use Rattle.plan.specs.Network.{Network}
 use Rattle.surface_state.specs.SurfaceView.{SurfaceView}
-use Rattle.one_engine.specs.State.{State, LeavesWithin}
+use Rattle.plan.specs.Products.{LeavesWithin}
+use Rattle.warp_core.specs.Configs.{IsFresh}
 use Rattle.one_engine.specs.Running.{IsSettled}
 use Rattle.one_engine.proofs.LawLemmas.{first_settled}
 use Rattle.surface_top.specs.declared.pages.Stop.{Stop}
 use Rattle.surface_top.specs.declared.pages.Stop.TheVariants as stops
 use Rattle.surface_top.specs.declared.writer.Span.{Span}
+use Rattle.surface_top.specs.declared.writer.Task.{Task}
 use Rattle.surface_top.specs.declared.writer.Writer.{Writer}
 use Rattle.surface_top.specs.Pages.{Page, Sent, Stopped, Sends}
 use Rattle.surface_top.specs.RunText.{Scene, Reached, start}
 use Rattle.surface_top.specs.Stops.{RunGains, IsLimited}
-use Rattle.surface_top.specs.Writing.{scene, reached_of, Begins, IsReady, EndsWith, Ends}
+use Rattle.surface_top.specs.Writing.{scene_of, reached_of, Begins, IsReady, EndsWith, Ends}
 use Rattle.surface_top.proofs.Written.{wrote_all}
 use Rattle.surface_top.proofs.Firing.{same_reached}
 
@@ -32,6 +33,9 @@ first_versions cells = All-map (λ (s : SiteState). s.version ≤ 7 * s.last) fr
 
 pub first_lasts : (cells : List SpeciesId) → All (λ (s : SiteState). s.last ≤ 10 ^ 15) (first_surface cells)
 first_lasts cells = All-map (λ (s : SiteState). s.last ≤ 10 ^ 15) fresh cells (λ k d h. omega arith)
+
+pub first_fresh : (cells : List SpeciesId) → All IsFresh (first_surface cells)
+first_fresh cells = All-map IsFresh fresh cells (λ k d h. (refl, refl))
 
 -- a writer that has written nothing of a run on a first surface is ready
 pub begins_ready : (s : Scene) (span : Span) (first : SurfaceView) (w : Writer) (cells : List SpeciesId) → Begins span first w → s.until ≡ span.until → s.limit ≡ span.limit → s.until ≤ 10 ^ 15 → first.lattice ≡ s.network.lattice → first.species_count ≡ length s.names
@@ -48,13 +52,12 @@ begins_ready s span first w cells b until limit long lattice species_count speci
 }
 
 -- what it tells to the end is the whole run
-pub begins_ends : {T : Type 0} (names : List (List ℕ)) (network : Network) (span : Span) (first copy : SurfaceView) (engine : State) (w : Writer) (a b : Page) (r : Result T Stop) → copy ≡ first → engine ≡ record { network = network; surface = first } → Begins span copy w
-    → Ends (scene names engine.network span) (reached_of w) a b r → Ends (scene names network span) (start (scene names network span) first.sites) a b r
-begins_ends names network span first copy engine w a b r is made h e =
-    let s = scene names network span in
-    let reached : reached_of w ≡ start s first.sites = same_reached _ _ _ _ _ _ (ap (λ (x : SurfaceView). x.sites) (h.surface ∙ is)) h.events h.ticks in
-    subst (λ (x : Reached). Ends s x a b r) reached
-    (subst (λ (x : State). Ends (scene names x.network span) (reached_of w) a b r) made e)
+pub begins_reached : (t : Task) (first : SurfaceView) (w : Writer) → Begins t.span first w → reached_of w ≡ start (scene_of t) first.sites
+begins_reached t first w h = same_reached _ _ _ _ _ _ (ap (λ (x : SurfaceView). x.sites) h.surface) h.events h.ticks
+
+pub begins_ends : {T : Type 0} (t : Task) (first : SurfaceView) (w : Writer) (a b : Page) (r : Result T Stop) → Begins t.span first w → Ends (scene_of t) (reached_of w) a b r → Ends (scene_of t) (start (scene_of t) first.sites) a b r
+begins_ends t first w a b r h e =
+    subst (λ (x : Reached). Ends (scene_of t) x a b r) (begins_reached t first w h) e
 
 sent_all : (a b : Page) (x : List ℕ) → a.pending ≡ [] → Sent a b x → Appends a.written b.written x
 sent_all a b x none p = wrote_all a b x p.wrote none p.none

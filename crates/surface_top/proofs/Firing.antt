@@ -127,6 +127,9 @@ pub fires_reached : (s : Scene) (w v u : Writer) (e : Event) → Fires s w v u e
 fires_reached s w v u e f =
     same_reached _ _ _ _ _ _ (fires_sites s w v u e f) (ap (λ (x : Writer). x.events) f.is ∙ number_w s w v u e f) (ap (λ (x : Writer). x.ticks) f.is ∙ ap (λ (x : Writer). x.ticks) f.shown)
 
+pub fires_count : (s : Scene) (w v u : Writer) (e : Event) → Fires s w v u e → u.events ≡ w.events + 1
+fires_count s w v u e f = ap (λ (x : Writer). x.events) f.is ∙ number_w s w v u e f
+
 settled_u : (s : Scene) (w v u : Writer) (e : Event) (f : Fires s w v u e) → All IsSettled f.surface.sites
 settled_u s w v u e f =
     let h : IsReady s v = ready_v s w v u e f in

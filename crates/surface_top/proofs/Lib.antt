@@ -19,3 +19,4 @@ mod TextEnds
 mod CircuitEnds
 mod Stressing
 mod Compiling
+mod Crewing

@@ -1,6 +1,6 @@
 -- The text of a run, event by event.
 use Rattle.std.proofs.Common.{◌≡◌, ℕ, suc, ◌<◌, ◌≤◌, List, [], ◌∷◌, ◌++◌, length, Option, Some, None, true, false, refl, sym, ap, ◌∙◌, append_assoc, append-nil, arith, subst}
-use Rattle.std.specs.Prelude.{Result, Ok, Err, OnOk, ◌==◌, if◌then◌else◌}
+use Rattle.std.specs.Prelude.{Result, Ok, Err, OnOk, IsErrOf, ◌==◌, if◌then◌else◌}
 use Rattle.std.proofs.lemmas.Bool.Decides.{nat_tests}
 use Rattle.surf_kinds.specs.declared.event.Event.{Event}
 use Rattle.lattice.specs.Surface.{after}
@@ -196,3 +196,17 @@ out_of_memory written faults p q x = record { prefix = (0, appends_none written)
 pub on_ok : {T E P : Type 0} (r : Result T E) → P → OnOk r P
 on_ok (Ok x) p = p
 on_ok (Err e) p = tt
+
+-- what fails within a text doesn't stop at the limit
+pub no_limit : {T : Type 0} (a b : Page) (x : List ℕ) (r : Result T Stop) → Puts a b x r → IsErrOf r stops.Limit → ⊥
+no_limit a b x (Ok v) p h = cc
+no_limit a b x (Err stops.Limit) p h = p.cause
+no_limit a b x (Err stops.Write) p h = cc
+no_limit a b x (Err stops.Memory) p h = cc
+
+-- nor does the end, where no event is due and there were no more than the limit
+pub ends_no_limit : {T : Type 0} (s : Scene) (r : Reached) (a b : Page) (result : Result T Stop) → NoneDue s r → r.events ≤ s.limit → Ends s r a b result → IsErrOf result stops.Limit → ⊥
+ends_no_limit s r a b (Ok v) none le e h = cc
+ends_no_limit s r a b (Err stops.Limit) none le e h = let same : total s r ≡ r.events = total_end s r none in omega (arith, e.limited, same, le)
+ends_no_limit s r a b (Err stops.Write) none le e h = cc
+ends_no_limit s r a b (Err stops.Memory) none le e h = cc

@@ -91,6 +91,12 @@ circuit_answer task.Value word c = value_answer word c
 
 -- the bounds of the options of a run
 pub record HasBounds (options : RunOptions) : Type 0 where
+  pub some_workers : 1 ≤ options.workers
+  pub workers : options.workers ≤ 64
+  pub some_quota : 1 ≤ options.quota
+  pub quota : options.quota ≤ 65536
+  pub some_slots : 1 ≤ options.slots
+  pub slots : options.slots ≤ 65536
   pub until : IfSome options.until (λ ticks. ticks ≤ 10 ^ 15)
   pub samples : options.samples ≤ 10000
   pub limit : options.limit ≤ 10000000

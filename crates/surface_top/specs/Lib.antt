@@ -11,3 +11,4 @@ pub mod Writing
 pub mod Stops
 pub mod CircuitRuns
 pub mod Cuts
+pub mod Crewed

@@ -76,18 +76,6 @@ pub(crate) enum ManifestJob {
     Ensemble(EnsembleOptions),
 }
 
-/// A run with these options.
-fn run_job(seed: Option<u64>, until: Option<u64>, samples: u64, limit: u64) -> ManifestJob
-    ensures { result ≡ ManifestJob.Run (record { seed = seed; until = until; samples = samples; limit = limit }) }
-{
-    ManifestJob::Run(RunOptions {
-        seed,
-        until,
-        samples,
-        limit,
-    })
-}
-
 /// An ensemble with these options.
 fn ensemble_job(workers: u64, seeds: u64, first: u64, until: Option<u64>, limit: u64) -> ManifestJob
     ensures { result ≡ ManifestJob.Ensemble (record { workers = workers; seeds = seeds; first = first; until = until; limit = limit }) }
@@ -101,9 +89,31 @@ fn ensemble_job(workers: u64, seeds: u64, first: u64, until: Option<u64>, limit:
     })
 }
 
+/// A run with these options. A region adds at most 256 entries in a turn, and a ring holds 256 messages.
+fn run_job(
+    workers: u64,
+    seed: Option<u64>,
+    until: Option<u64>,
+    samples: u64,
+    limit: u64,
+) -> ManifestJob
+    ensures { result ≡ ManifestJob.Run (record { workers = workers; quota = 256; slots = 256; seed = seed; until = until; samples = samples; limit = limit }) }
+{
+    ManifestJob::Run(RunOptions {
+        workers,
+        quota: 256,
+        slots: 256,
+        seed,
+        until,
+        samples,
+        limit,
+    })
+}
+
 /// Reads a manifest and writes what the job makes of it.
-fn answer_manifest<R: Threads + Sync, O: Sink>(
+fn answer_manifest<R: Threads + Sync, O: Sink, G: Gate>(
     rt: &R,
+    gate: &G,
     alloc: Global,
     text: &[u8],
     job: ManifestJob,
@@ -120,7 +130,7 @@ fn answer_manifest<R: Threads + Sync, O: Sink>(
     match job {
         ManifestJob::Check => check(alloc, &manifest, out),
         ManifestJob::Print => print(alloc, &manifest, out),
-        ManifestJob::Run(options) => run_manifest(alloc, manifest, options, out),
+        ManifestJob::Run(options) => run_manifest(rt, gate, alloc, &manifest, options, out),
         ManifestJob::Ensemble(options) => ensemble_manifest(rt, alloc, &manifest, options, out),
     }
 }
@@ -155,8 +165,9 @@ fn answer_circuit<O: Sink>(
 
 /// Does what the words say with the text that was read, and writes what that gives. For a command that reads nothing the
 /// text has no effect.
-fn answer_text<R: Threads + Sync, O: Sink>(
+fn answer_text<R: Threads + Sync, O: Sink, G: Gate>(
     rt: &R,
+    gate: &G,
     alloc: Global,
     words: &[String],
     command: Words,
@@ -168,17 +179,17 @@ fn answer_text<R: Threads + Sync, O: Sink>(
     ensures { Answered (answer_within command (map string_bytes words.now) text.now) result (O.written out.old) (O.written out.new) (O.faults out.old) (O.faults out.new) }
 {
     match command {
-        Words::Check => answer_manifest(rt, alloc, text, ManifestJob::Check, out),
-        Words::Print => answer_manifest(rt, alloc, text, ManifestJob::Print, out),
+        Words::Check => answer_manifest(rt, gate, alloc, text, ManifestJob::Check, out),
+        Words::Print => answer_manifest(rt, gate, alloc, text, ManifestJob::Print, out),
         Words::Run {
+            workers,
             seed,
             until,
             samples,
             limit,
-            ..
         } => {
-            let job = run_job(seed, until, samples, limit);
-            answer_manifest(rt, alloc, text, job, out)
+            let job = run_job(workers, seed, until, samples, limit);
+            answer_manifest(rt, gate, alloc, text, job, out)
         }
         Words::Ensemble {
             workers,
@@ -188,7 +199,7 @@ fn answer_text<R: Threads + Sync, O: Sink>(
             limit,
         } => {
             let job = ensemble_job(workers, seeds, first, until, limit);
-            answer_manifest(rt, alloc, text, job, out)
+            answer_manifest(rt, gate, alloc, text, job, out)
         }
         Words::Compile { inputs: index } => {
             answer_circuit(alloc, text, CircuitJob::Compile, inputs(words, index), out)
@@ -202,8 +213,9 @@ fn answer_text<R: Threads + Sync, O: Sink>(
 }
 
 /// Reads the source to its end and writes the answer.
-fn answer_source<R: Threads + Sync, S: Source, O: Sink>(
+fn answer_source<R: Threads + Sync, S: Source, O: Sink, G: Gate>(
     rt: &R,
+    gate: &G,
     alloc: Global,
     words: &[String],
     command: Words,
@@ -224,12 +236,13 @@ fn answer_source<R: Threads + Sync, S: Source, O: Sink>(
         Err(SlurpError::TooLong) => return Ending::TooLong,
         Err(SlurpError::Memory) => return Ending::Memory,
     };
-    answer_text(rt, alloc, words, command, &text, out)
+    answer_text(rt, gate, alloc, words, command, &text, out)
 }
 
 /// Does all that the words ask for but the message. Wrong words come first, and then nothing is read or written.
-fn work<R: Threads + Sync, S: Source, O: Sink>(
+fn work<R: Threads + Sync, S: Source, O: Sink, G: Gate>(
     rt: &R,
+    gate: &G,
     alloc: Global,
     words: &[String],
     source: &mut S,
@@ -245,8 +258,10 @@ fn work<R: Threads + Sync, S: Source, O: Sink>(
     ensures write { result ≡ Ending.WriteFault → Rose (O.faults out.old) (O.faults out.new) }
 {
     match Words::read(words, Program::Surface) {
-        Ok(command) if command.reads() => answer_source(rt, alloc, words, command, source, out),
-        Ok(command) => answer_text(rt, alloc, words, command, &[], out),
+        Ok(command) if command.reads() => {
+            answer_source(rt, gate, alloc, words, command, source, out)
+        }
+        Ok(command) => answer_text(rt, gate, alloc, words, command, &[], out),
         Err(index) => Ending::WrongWord(index as u64),
     }
 }
@@ -286,7 +301,7 @@ pub fn surface_main<R: Threads + Sync, S: Source, O: Sink, N: Sink, G: Gate>(
     source: &mut S,
     out: &mut O,
     notes: &mut N,
-    _gate: &G,
+    gate: &G,
 ) -> Status
     ensures answer { IsOutcome (specified_answer Surface (map string_bytes words.now)) [] result
         (outside (source_view (S.unread source.old) (S.faults source.old)) (sink_view (O.written out.old) (O.faults out.old)) (sink_view (N.written notes.old) (N.faults notes.old)))
@@ -303,7 +318,7 @@ pub fn surface_main<R: Threads + Sync, S: Source, O: Sink, N: Sink, G: Gate>(
     ensures read { result ≡ Status.ReadFault → Rose (S.faults source.old) (S.faults source.new) }
     ensures write { result ≡ Status.WriteFault → Rose (O.faults out.old) (O.faults out.new) }
 {
-    let ending = work(rt, alloc, words, source, out);
+    let ending = work(rt, gate, alloc, words, source, out);
     match message_of(alloc, ending) {
         Ok(line) => {
             put_message(notes, line.as_bytes());

@@ -1,41 +1,46 @@
-//! What `run` writes of a manifest: a run of its plan on its first surface.
+//! What `run` writes of a manifest: a run of its plan on its first surface, by a crew.
 
-ghost use Rattle.std.specs.Prelude.{◌≡◌, ◌^◌, ◌≤◌, List, length, [], None, All, OnOk, IfSome, IsErrOf};
+ghost use Rattle.std.specs.Prelude.{◌≡◌, ◌^◌, ◌≤◌, List, length, All, OnOk, IfOk, IsErrOf};
 ghost use Rattle.surf_kinds.specs.declared.site.SpeciesId.{SpeciesId};
+ghost use Rattle.surf_kinds.specs.Keys.{origin};
 ghost use Rattle.surf_outside.specs.Causes.{Rose};
 ghost use Rattle.surf_outside.specs.Known.{AppendsPrefix};
 ghost use Rattle.lattice.specs.Surface.{first_surface};
-ghost use Rattle.one_engine.specs.State.{LeavesWithin};
+ghost use Rattle.plan.specs.Products.{LeavesWithin};
+ghost use Rattle.warp_core.specs.World.{end_key};
+ghost use Rattle.crew.specs.Crews.{world_in};
 ghost use Rattle.manifest_read.specs.Sound.{IsSound};
 ghost use Rattle.surface_top.specs.Answer.{run_answer, scene_of};
+ghost use Rattle.surface_top.specs.Crewed.{IsCrewFor, IsPastLimit, IsSameCrew, first_of, network_of};
 ghost use Rattle.surface_top.specs.Ending.{Answered, HasBounds, run_ending};
-ghost use Rattle.surface_top.specs.Pages.{page};
 ghost use Rattle.surface_top.specs.RunText.{run_text};
 ghost use Rattle.surface_top.specs.Stops.{IsLimited, RunGains};
-ghost use Rattle.plan.specs.History.{due, AreNext};
-ghost use Rattle.one_engine.specs.State.{fired_all};
-ghost use Rattle.surface_top.specs.Writing.{scene, reached_of, IsReady, Ends};
+ghost use Rattle.surface_top.specs.Writing.{scene_of as scene_of_task};
 
 use crate::ending::Ending;
 pub(crate) use crate::pages::Stop;
+use crate::rounds::write_rounds;
 pub(crate) use crate::writer::Span;
 use crate::writer::{Task, Writer};
+use crew::{Crew, CrewSettings};
 use manifest_read::Manifest;
-use one_engine::Engine;
 use plan::Plan;
-use species::Names;
-use std::alloc::{AllocError, Global};
-use surf_kinds::{Event, NoMemory};
-use surf_outside::Sink;
+use regions::Cut;
+use std::alloc::Global;
+use std::thread::Threads;
+use surf_kinds::NoMemory;
+use surf_outside::{Gate, Sink};
 use surface_state::Surface;
-
-/// How many events are fired before they are written. A line has from 21 to 50 bytes, so those of a full list have
-/// more than 32 KiB, and fewer than wait in a writer before they go out.
-const BATCH: usize = 1_600;
 
 /// The options of a run.
 #[derive(Clone, Copy)]
 pub(crate) struct RunOptions {
+    /// The most regions, from 1 to 64, each of which takes its turns on a worker of its own.
+    pub(crate) workers: u64,
+    /// The most entries that a region adds in a turn, from 1 to 65,536.
+    pub(crate) quota: u64,
+    /// How many messages the ring between two regions holds, from 1 to 65,536.
+    pub(crate) slots: u64,
     /// In place of the manifest's seed.
     pub(crate) seed: Option<u64>,
     /// In ticks, in place of the manifest's duration.
@@ -44,91 +49,63 @@ pub(crate) struct RunOptions {
     pub(crate) limit: u64,
 }
 
-/// Fires the next events, `BATCH` of them or all that are due, into a list that has room for so many.
-fn fire_batch(engine: &mut Engine, until: u64, batch: &mut Vec<Event>) -> Result<(), AllocError>
-    requires { until ≤ 10 ^ 15 }
-    ensures next { OnOk result (AreNext engine.old.network until engine.old.surface.sites batch.new.items) }
-    ensures fired { OnOk result (engine.new ≡ fired_all engine.old batch.new.items) }
-    ensures last { OnOk result (batch.new.items ≡ [] → due engine.old.network until engine.old.surface.sites ≡ None) }
-{
-    batch.clear();
-    for _ in 0..BATCH {
-        let Some(event) = engine.fire(until) else {
-            return Ok(());
-        };
-        batch.push(event)?;
-    }
-    Ok(())
-}
-
-/// Fires all events, and writes them.
-fn run_engine<O: Sink>(
-    names: &Names,
-    engine: &mut Engine,
-    writer: &mut Writer,
-    batch: &mut Vec<Event>,
-    span: Span,
-    out: &mut O,
-) -> Result<(), Stop>
-    requires ready { IsReady (scene names.now engine.old.network span) writer.old }
-    requires same { engine.old.surface.sites ≡ writer.old.surface.sites }
-    ensures { Ends (scene names.now engine.old.network span) (reached_of writer.old) (page (O.written out.old) (O.faults out.old) writer.old.buffer) (page (O.written out.new) (O.faults out.new) writer.new.buffer) result }
-{
-    loop {
-        match fire_batch(engine, span.until, batch) {
-            Ok(()) => {}
-            Err(_) => return Err(Stop::Memory),
-        }
-        let task = Task {
-            names,
-            plan: engine.plan(),
-            span,
-        };
-        if batch.is_empty() {
-            return writer.end(&task, out);
-        }
-        match writer.write_events(&task, out, batch.as_slice()) {
-            Ok(()) => {}
-            Err(stop) => return Err(stop),
-        }
-    }
-}
-
-/// Runs a plan on a first surface, and writes its run text. Where it has more events than the limit, the text ends
-/// there; after a fault of the sink, and where memory runs out, a prefix of the text was written.
-pub(crate) fn write_run<O: Sink>(
+/// A crew for a run of a plan on a first surface up to a tick.
+fn crew_of(
     alloc: Global,
-    names: &Names,
     plan: Plan,
+    surface: &Surface,
+    until: u64,
+    options: RunOptions,
+) -> Result<Crew, NoMemory>
+    requires lattice { surface.now.lattice ≡ plan.lattice }
+    requires species { All (LeavesWithin surface.now.species_count) plan.rules }
+    requires first { (cells : List SpeciesId) × (surface.now.sites ≡ first_surface cells) }
+    requires duration { until ≤ 10 ^ 15 }
+    requires bounds { HasBounds options }
+    ensures crew { IfOk result (IsCrewFor plan until surface.now options) }
+    ensures horizon { IfOk result (λ c. c.horizon ≡ origin) }
+{
+    let settings = CrewSettings {
+        until,
+        quota: options.quota as u32,
+        slots: options.slots as u32,
+    };
+    let cut = Cut::bands(plan.lattice(), options.workers as u32);
+    Crew::new(alloc, plan, surface, cut, settings)
+}
+
+/// Runs a crew from its first surface on, and writes its run text. Where it has more events than the limit, the text ends
+/// there; after a fault of the sink, and where memory runs out, a prefix of the text was written.
+pub(crate) fn write_run<R: Threads + Sync, O: Sink, G: Gate>(
+    rt: &R,
+    gate: &G,
+    alloc: Global,
+    task: &Task,
+    crew: &mut Crew,
     surface: Surface,
-    span: Span,
     out: &mut O,
 ) -> Result<(), Stop>
-    requires lattice { surface.lattice ≡ plan.lattice }
-    requires species_count { surface.species_count ≡ length names.now }
-    requires species { All (LeavesWithin surface.species_count) plan.rules }
+    requires lattice { surface.lattice ≡ task.now.plan.now.lattice }
+    requires species_count { surface.species_count ≡ length task.now.names.now }
+    requires species { All (LeavesWithin surface.species_count) task.now.plan.now.rules }
     requires first { (cells : List SpeciesId) × (surface.sites ≡ first_surface cells) }
-    requires duration { span.until ≤ 10 ^ 15 }
-    requires samples { span.samples ≤ 10000 }
-    requires limit { span.limit ≤ 10000000 }
-    ensures limited { IsLimited result (scene names.now plan span) surface.sites }
-    ensures text { RunGains result (run_text (scene names.now plan span) surface.sites) (O.written out.old) (O.written out.new) }
-    ensures prefix { AppendsPrefix (O.written out.old) (O.written out.new) (run_text (scene names.now plan span) surface.sites) }
+    requires duration { task.now.span.until ≤ 10 ^ 15 }
+    requires samples { task.now.span.samples ≤ 10000 }
+    requires network { crew.old.network ≡ task.now.plan.now }
+    requires until { crew.old.until ≡ task.now.span.until }
+    requires start { crew.old.start ≡ surface }
+    requires horizon { crew.old.horizon ≡ origin }
+    ensures limited { IsLimited result (scene_of_task task.now) surface.sites }
+    ensures text { RunGains result (run_text (scene_of_task task.now) surface.sites) (O.written out.old) (O.written out.new) }
+    ensures prefix { AppendsPrefix (O.written out.old) (O.written out.new) (run_text (scene_of_task task.now) surface.sites) }
     ensures later { O.faults out.old ≤ O.faults out.new }
     ensures write { IsErrOf result Stop.Write → Rose (O.faults out.old) (O.faults out.new) }
+    ensures finished { OnOk result (crew.new.horizon ≡ end_key (world_in crew.new)) }
+    ensures past { IsErrOf result Stop.Limit → IsPastLimit (scene_of_task task.now) crew.new }
+    ensures same { IsSameCrew crew.old crew.new }
 {
-    let Ok(copy) = surface.copy() else {
-        return Err(Stop::Memory);
-    };
-    let mut engine = match Engine::new(alloc, plan, surface) {
-        Ok(engine) => engine,
-        Err(NoMemory) => return Err(Stop::Memory),
-    };
-    let Ok(mut batch) = Vec::with_capacity(alloc, BATCH) else {
-        return Err(Stop::Memory);
-    };
-    let mut writer = Writer::new(alloc, copy, span);
-    run_engine(names, &mut engine, &mut writer, &mut batch, span, out)
+    let mut writer = Writer::new(alloc, surface, task.span);
+    write_rounds(rt, gate, task, crew, &mut writer, out)
 }
 
 /// How the call ends after a run.
@@ -143,16 +120,55 @@ fn ending_of(run: Result<(), Stop>, limit: u64) -> Ending
     }
 }
 
-/// Runs a manifest and writes its run text. A seed and a duration that the words give stand in place of its own.
-pub(crate) fn run_manifest<O: Sink>(
+/// The plan of a manifest, with a seed.
+fn plan_of(alloc: Global, manifest: &Manifest, seed: u64) -> Result<Plan, NoMemory>
+    requires { IsSound manifest.now }
+    ensures { IfOk result (λ p. p ≡ network_of seed manifest.now) }
+{
+    Plan::new(alloc, manifest.rules.as_slice(), manifest.lattice, seed)
+}
+
+/// The first surface of a manifest.
+fn surface_of(alloc: Global, manifest: &Manifest) -> Result<Surface, NoMemory>
+    requires { IsSound manifest.now }
+    ensures { IfOk result (λ s. s ≡ first_of manifest.now) }
+{
+    let cells = manifest.cells.as_slice();
+    Surface::new(alloc, manifest.lattice, cells, manifest.names.count())
+}
+
+/// A crew for a run of a manifest with a seed.
+fn crew_for(
     alloc: Global,
-    manifest: Manifest,
+    manifest: &Manifest,
+    seed: u64,
+    surface: &Surface,
+    until: u64,
+    options: RunOptions,
+) -> Result<Crew, NoMemory>
+    requires sound { IsSound manifest.now }
+    requires surface { surface.now ≡ first_of manifest.now }
+    requires duration { until ≤ 10 ^ 15 }
+    requires bounds { HasBounds options }
+    ensures crew { IfOk result (IsCrewFor (network_of seed manifest.now) until (first_of manifest.now) options) }
+    ensures horizon { IfOk result (λ c. c.horizon ≡ origin) }
+{
+    let plan = plan_of(alloc, manifest, seed)?;
+    crew_of(alloc, plan, surface, until, options)
+}
+
+/// Runs a manifest and writes its run text. A seed and a duration that the words give stand in place of its own.
+pub(crate) fn run_manifest<R: Threads + Sync, O: Sink, G: Gate>(
+    rt: &R,
+    gate: &G,
+    alloc: Global,
+    manifest: &Manifest,
     options: RunOptions,
     out: &mut O,
 ) -> Ending
-    requires sound { IsSound manifest }
+    requires sound { IsSound manifest.now }
     requires bounds { HasBounds options }
-    ensures { Answered (run_answer (scene_of options.seed options.until options.samples options.limit manifest) manifest) result (O.written out.old) (O.written out.new) (O.faults out.old) (O.faults out.new) }
+    ensures { Answered (run_answer (scene_of options.seed options.until options.samples options.limit manifest.now) manifest.now) result (O.written out.old) (O.written out.new) (O.faults out.old) (O.faults out.new) }
 {
     let span = Span {
         until: options.until.unwrap_or(manifest.until),
@@ -160,18 +176,25 @@ pub(crate) fn run_manifest<O: Sink>(
         limit: options.limit,
     };
     let seed = options.seed.unwrap_or(manifest.seed);
-    let lattice = manifest.lattice;
-    let plan = match Plan::new(alloc, manifest.rules.as_slice(), lattice, seed) {
+    let plan = match plan_of(alloc, manifest, seed) {
         Ok(plan) => plan,
         Err(NoMemory) => return Ending::Memory,
     };
-    let cells = manifest.cells.as_slice();
-    let surface = match Surface::new(alloc, lattice, cells, manifest.names.count()) {
+    let surface = match surface_of(alloc, manifest) {
         Ok(surface) => surface,
         Err(NoMemory) => return Ending::Memory,
     };
+    let mut crew = match crew_for(alloc, manifest, seed, &surface, span.until, options) {
+        Ok(crew) => crew,
+        Err(NoMemory) => return Ending::Memory,
+    };
+    let task = Task {
+        names: &manifest.names,
+        plan: &plan,
+        span,
+    };
     ending_of(
-        write_run(alloc, &manifest.names, plan, surface, span, out),
+        write_run(rt, gate, alloc, &task, &mut crew, surface, out),
         options.limit,
     )
 }

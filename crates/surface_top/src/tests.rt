@@ -32,7 +32,7 @@ const DEMO_TEXT: &str =
 pub(crate) const XOR: &str = "input a b\nx = XOR a b\noutput x\n";
 
 /// Commands, options and their output.
-const ANSWERED: [Row; 23] = [
+const ANSWERED: [Row; 26] = [
     Row {
         line: "run",
         text: CATALYST,
@@ -192,6 +192,27 @@ const ANSWERED: [Row; 23] = [
         text: XOR,
         status: Status::Done,
         out: "x 0\n",
+        notes: "",
+    },
+    Row {
+        line: "ensemble --first 18446744073709551615 --seeds 2",
+        text: CATALYST,
+        status: Status::Done,
+        out: "seed 18446744073709551615 events 2 last 2 A:1 B:0 C:2\nseed 0 events 2 last 2 A:1 B:0 C:2\ntotal seeds 2 ended 2 events 4\nA least 1 greatest 1 sum 2\nB least 0 greatest 0 sum 0\nC least 2 greatest 2 sum 4\n",
+        notes: "",
+    },
+    Row {
+        line: "ensemble --seeds 1 --first 7 --limit 1",
+        text: CATALYST,
+        status: Status::Done,
+        out: "seed 7 events 1 last 1 A:1 B:1 C:1 limit\ntotal seeds 1 ended 0 events 1\nA least 1 greatest 1 sum 1\nB least 1 greatest 1 sum 1\nC least 1 greatest 1 sum 1\n",
+        notes: "",
+    },
+    Row {
+        line: "ensemble --until 0 --workers 3 --seeds 2",
+        text: CATALYST,
+        status: Status::Done,
+        out: "seed 0 events 0 last 0 A:1 B:2 C:0\nseed 1 events 0 last 0 A:1 B:2 C:0\ntotal seeds 2 ended 2 events 0\nA least 1 greatest 1 sum 2\nB least 2 greatest 2 sum 4\nC least 0 greatest 0 sum 0\n",
         notes: "",
     },
 ];

@@ -1,6 +1,6 @@
 //! What a run writes: events in the order of the history, and the surfaces between them.
 
-ghost use Rattle.std.specs.Prelude.{◌≡◌, ◌^◌, ◌≤◌, [], length, Some, None, OnOk};
+ghost use Rattle.std.specs.Prelude.{◌≡◌, ◌+◌, ◌^◌, ◌<◌, ◌≤◌, [], length, Some, None, OnOk, IsErrOf};
 ghost use Rattle.lattice.specs.Places.{IsPlace};
 ghost use Rattle.lattice.specs.Surface.{after, after_all};
 ghost use Rattle.trace_text.specs.Lines.{event_text, surface_text, end_text, limit_text};
@@ -90,6 +90,8 @@ impl Writer {
         requires ready { IsReady (scene_of task.now) self.old }
         requires next { AreNext task.now.plan.now task.now.span.until self.old.surface.sites events.now }
         ensures advances { Advances (scene_of task.now) (reached_of self.old) (reached_of self.new) (page (O.written out.old) (O.faults out.old) self.old.buffer) (page (O.written out.new) (O.faults out.new) self.new.buffer) result }
+        ensures count { OnOk result (self.new.events ≡ self.old.events + length events.now) }
+        ensures limit { IsErrOf result Stop.Limit → task.now.span.limit < self.old.events + length events.now }
         ensures sites { OnOk result (self.new.surface.sites ≡ after_all task.now.plan.now.lattice task.now.plan.now.rules self.old.surface.sites events.now) }
         ensures ready { OnOk result (IsReady (scene_of task.now) self.new) }
         ensures sent { OnOk result (self.new.buffer.bytes ≡ []) }
@@ -124,6 +126,8 @@ impl Writer {
         requires ready { IsReady (scene_of task.now) self.old }
         requires due { due task.now.plan.now task.now.span.until self.old.surface.sites ≡ Some event }
         ensures advances { Advances (scene_of task.now) (reached_of self.old) (reached_of self.new) (page (O.written out.old) (O.faults out.old) self.old.buffer) (page (O.written out.new) (O.faults out.new) self.new.buffer) result }
+        ensures count { OnOk result (self.new.events ≡ self.old.events + 1) }
+        ensures limit { IsErrOf result Stop.Limit → self.old.events ≡ task.now.span.limit }
         ensures sites { OnOk result (self.new.surface.sites ≡ after task.now.plan.now.lattice task.now.plan.now.rules self.old.surface.sites event) }
         ensures ready { OnOk result (IsReady (scene_of task.now) self.new) }
     {

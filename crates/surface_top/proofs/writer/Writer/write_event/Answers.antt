@@ -1,9 +1,9 @@
-use Rattle.std.proofs.Common.{refl, subst}
+use Rattle.std.proofs.Common.{Err, refl, subst}
 use Rattle.trace_text.specs.Lines.{limit_text}
 use Rattle.surface_top.specs.Pages.{page, StopsWith}
 use Rattle.surface_top.specs.Writing.{scene_of, reached_of}
-use Rattle.surface_top.proofs.Progressing.{shows_ends, stop_ends, event_advances, on_ok}
-use Rattle.surface_top.proofs.Firing.{Fires, ready_shown, due_shown, fires_place_here, fires_channel, fires_room, fires_pair, fires_species, fires_below, fires_reached, fires_sites, fires_ready, stop_events, stop_limit}
+use Rattle.surface_top.proofs.Progressing.{shows_ends, stop_ends, event_advances, on_ok, no_limit}
+use Rattle.surface_top.proofs.Firing.{Fires, ready_shown, due_shown, fires_place_here, fires_channel, fires_room, fires_pair, fires_species, fires_below, fires_reached, fires_sites, fires_ready, fires_count, stop_events, stop_limit}
 use Rattle.surface_top.proofs.writer.Writer.write_event.Given.{Over}
 use Rattle.surface_top.proofs.writer.Writer.write_event.Goals as goal
 
@@ -81,3 +81,16 @@ returns-clause-sites g c =
 pub returns-clause-ready : goal.returns-clause-ready
 returns-clause-ready g c =
     on_ok c.put_event.result (fires_ready (scene_of c.args.task.now) c.args.self.now c.show.new.self c.put_event.new.self c.args.event (firing g c))
+
+pub returns-clause-count : goal.returns-clause-count
+returns-clause-count g c =
+    on_ok c.put_event.result (fires_count (scene_of c.args.task.now) c.args.self.now c.show.new.self c.put_event.new.self c.args.event (firing g c))
+
+pub returns-in-Err-clause-limit : goal.returns-in-Err-clause-limit
+returns-in-Err-clause-limit g c h = absurd (no_limit {T = Unit {0}} _ _ _ (Err c.in-Err.stop) c.in-Err.ensures.puts h)
+
+pub returns-in-Err-admit-clause-limit : goal.returns-in-Err-admit-clause-limit
+returns-in-Err-admit-clause-limit g c h = stop_events (scene_of c.args.task.now) c.args.self.now c.show.new.self c.args.event.time c.requires.ready c.in-Ok.ensures.rest (c.in-Err-admit.ensures.refused.0 refl)
+
+pub returns-clause-limit : goal.returns-clause-limit
+returns-clause-limit g c h = absurd (no_limit _ _ _ c.put_event.result c.put_event.ensures.puts h)

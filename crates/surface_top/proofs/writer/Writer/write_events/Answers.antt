@@ -1,7 +1,7 @@
-use Rattle.std.proofs.Common.{Err}
+use Rattle.std.proofs.Common.{Err, arith}
 use Rattle.surface_top.specs.Writing.{scene_of, reached_of}
-use Rattle.surface_top.proofs.Progressing.{progress_ends, flushed_advances, on_ok}
-use Rattle.surface_top.proofs.Batches.{writing_step, writing_sites, ready_sent}
+use Rattle.surface_top.proofs.Progressing.{progress_ends, flushed_advances, on_ok, no_limit}
+use Rattle.surface_top.proofs.Batches.{writing_step, writing_sites, writing_count, ready_sent}
 use Rattle.surface_top.proofs.writer.Writer.write_events.Goals as goal
 
 pub returns-in-Err-clause-advances : goal.returns-in-Err-clause-advances
@@ -10,7 +10,7 @@ returns-in-Err-clause-advances g c =
 
 pub loop-event-preserved : goal.loop-event-preserved
 loop-event-preserved g c =
-    writing_step (scene_of c.args.task.now) c.args.self.now c.loop-event.self c.write_event.new.self c.args.events.now c.loop-event.event-index _ _ _ _ c.loop-event.invariant c.loop-event-test.true c.in-Ok.ensures.ready c.in-Ok.ensures.advances c.in-Ok.ensures.sites
+    writing_step (scene_of c.args.task.now) c.args.self.now c.loop-event.self c.write_event.new.self c.args.events.now c.loop-event.event-index _ _ _ _ c.loop-event.invariant c.loop-event-test.true c.in-Ok.ensures.ready c.in-Ok.ensures.advances c.in-Ok.ensures.sites c.in-Ok.ensures.count
 
 pub returns-clause-advances : goal.returns-clause-advances
 returns-clause-advances g c =
@@ -18,3 +18,12 @@ returns-clause-advances g c =
 
 pub returns-clause-ready : goal.returns-clause-ready
 returns-clause-ready g c = on_ok c.flush.result (ready_sent (scene_of c.args.task.now) c.loop-event.self c.flush.new.buffer c.loop-event.invariant.ready)
+
+pub returns-clause-count : goal.returns-clause-count
+returns-clause-count g c = on_ok c.flush.result (writing_count (scene_of c.args.task.now) c.args.self.now c.loop-event.self c.args.events.now c.loop-event.event-index _ _ c.loop-event.invariant (omega (arith, c.loop-event-test.false)))
+
+pub returns-in-Err-clause-limit : goal.returns-in-Err-clause-limit
+returns-in-Err-clause-limit g c h = omega (arith, c.in-Err.ensures.limit h, c.loop-event.invariant.count, c.loop-event-test.true)
+
+pub returns-clause-limit : goal.returns-clause-limit
+returns-clause-limit g c h = absurd (no_limit _ _ _ c.flush.result c.flush.ensures.puts h)
