@@ -20,3 +20,4 @@ mod CircuitEnds
 mod Stressing
 mod Compiling
 mod Crewing
+mod NetlistAnswers

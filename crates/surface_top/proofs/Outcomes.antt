@@ -10,7 +10,7 @@ use Rattle.surface_top.specs.declared.ending.Ending.{Ending}
 use Rattle.surface_top.specs.declared.ending.Ending.TheVariants as ending
 use Rattle.surface_top.specs.Answer.{Answer}
 use Rattle.surface_top.specs.Ending.{status_of, answer_by, IsEndingOf, EndsAs}
-use Rattle.surface_top.specs.Outcome.{is_over, are_too_many, limit_or_faulty, own_status, IsStatusOf, answer_note, message, Gains, NotesGain, HasText, HasWriteCause, Outside, IsOutcome}
+use Rattle.surface_top.specs.Outcome.{is_over, are_too_many, has_too_many_nets, limit_or_faulty, own_status, IsStatusOf, answer_note, message, Gains, NotesGain, HasText, HasWriteCause, Outside, IsOutcome}
 use Rattle.surface_top.proofs.Statuses.{status_is, message_is, out_prefix, complete_of, read_fault, write_fault, memory_message}
 
 gains_nothing : (F : Type 0) (old new : Option (List ℕ)) → Gains F [] old new → Appends old new []
@@ -28,6 +28,7 @@ notes_are F (ending.WrongWord index) a old new h g = g
 notes_are F ending.TooLong a old new h g = g
 notes_are F (ending.BadManifest fault) a old new h g = noted_or F (is_over fault.kind) a old new g
 notes_are F (ending.BadCircuit fault) a old new h g = noted_or F (are_too_many fault.kind) a old new g
+notes_are F (ending.BadNetlist fault) a old new h g = noted_or F (has_too_many_nets fault.kind) a old new g
 notes_are F (ending.WrongInputs expected given) a old new h g = g
 notes_are F (ending.TooManySites sites) a old new h g = g
 notes_are F (ending.EventLimit limit) a old new h g = g

@@ -7,9 +7,9 @@ use Rattle.surf_kinds.specs.declared.status.Status.{Status}
 use Rattle.surf_kinds.specs.declared.status.Status.TheVariants as status
 use Rattle.surface_top.specs.declared.ending.Ending.{Ending}
 use Rattle.surface_top.specs.declared.ending.Ending.TheVariants as ending
-use Rattle.surface_top.specs.Answer.{Answer, BadManifest, BadCircuit, text_of}
+use Rattle.surface_top.specs.Answer.{Answer, BadManifest, BadCircuit, BadNetlist, text_of}
 use Rattle.surface_top.specs.Ending.{status_of, answer_by, IsEndingOf}
-use Rattle.surface_top.specs.Outcome.{is_over, are_too_many, limit_or_faulty, own_status, IsStatusOf, OutGains, answer_note, message}
+use Rattle.surface_top.specs.Outcome.{is_over, are_too_many, has_too_many_nets, limit_or_faulty, own_status, IsStatusOf, OutGains, answer_note, message}
 
 own_or : (over : Bool) (a : Answer) → own_status a ≡ limit_or_faulty over → IsStatusOf (limit_or_faulty over) a
 own_or true a h = h
@@ -22,6 +22,7 @@ status_is (ending.WrongWord index) a h = ap own_status h
 status_is ending.TooLong a h = ap own_status h
 status_is (ending.BadManifest fault) a h = own_or (is_over fault.kind) a (ap own_status h)
 status_is (ending.BadCircuit fault) a h = own_or (are_too_many fault.kind) a (ap own_status h)
+status_is (ending.BadNetlist fault) a h = own_or (has_too_many_nets fault.kind) a (ap own_status h)
 status_is (ending.WrongInputs expected given) a h = ap own_status h
 status_is (ending.TooManySites sites) a h = ap own_status h
 status_is (ending.EventLimit limit) a h = ap own_status h.1
@@ -42,6 +43,7 @@ message_is (ending.WrongWord index) a h = sym (ap answer_note h)
 message_is ending.TooLong a h = sym (ap answer_note h)
 message_is (ending.BadManifest fault) a h = noted (is_over fault.kind) (BadManifest fault) a (sym (ap answer_note h))
 message_is (ending.BadCircuit fault) a h = noted (are_too_many fault.kind) (BadCircuit fault) a (sym (ap answer_note h))
+message_is (ending.BadNetlist fault) a h = noted (has_too_many_nets fault.kind) (BadNetlist fault) a (sym (ap answer_note h))
 message_is (ending.WrongInputs expected given) a h = sym (ap answer_note h)
 message_is (ending.TooManySites sites) a h = sym (ap answer_note h)
 message_is (ending.EventLimit limit) a h = sym (ap answer_note h.1)
@@ -86,6 +88,7 @@ read_fault (ending.WrongWord index) h = search rules
 read_fault ending.TooLong h = search rules
 read_fault (ending.BadManifest fault) h = absurd (not_read (is_over fault.kind) h)
 read_fault (ending.BadCircuit fault) h = absurd (not_read (are_too_many fault.kind) h)
+read_fault (ending.BadNetlist fault) h = absurd (not_read (has_too_many_nets fault.kind) h)
 read_fault (ending.WrongInputs expected given) h = search rules
 read_fault (ending.TooManySites sites) h = search rules
 read_fault (ending.EventLimit limit) h = search rules
@@ -99,6 +102,7 @@ write_fault (ending.WrongWord index) h = search rules
 write_fault ending.TooLong h = search rules
 write_fault (ending.BadManifest fault) h = absurd (not_write (is_over fault.kind) h)
 write_fault (ending.BadCircuit fault) h = absurd (not_write (are_too_many fault.kind) h)
+write_fault (ending.BadNetlist fault) h = absurd (not_write (has_too_many_nets fault.kind) h)
 write_fault (ending.WrongInputs expected given) h = search rules
 write_fault (ending.TooManySites sites) h = search rules
 write_fault (ending.EventLimit limit) h = search rules

@@ -9,6 +9,9 @@ use Rattle.manifest_write.specs.Canon.{canonical_text}
 use Rattle.circuit_text.specs.declared.fault.CircuitFault.{CircuitFault}
 use Rattle.circuit_text.specs.Circuits.{NetList, circuit_in}
 use Rattle.circuit_text.specs.Values.{input_count}
+use Rattle.bench_read.specs.declared.fault.BenchFault.{BenchFault}
+use Rattle.bench_read.specs.Netlists.{Netlist, netlist_in}
+use Rattle.bench_read.specs.Chains.{text_of as circuit_text}
 use Rattle.gate_layout.specs.Layout.{site_count, layout}
 use Rattle.crn_compile.specs.Compiled.{compiled_manifest}
 use Rattle.workload.specs.Generated.{generated_manifest}
@@ -17,7 +20,7 @@ use Rattle.ensemble.specs.Outcomes.{outcomes}
 use Rattle.ensemble.specs.Texts.{ensemble_text}
 use Rattle.surface_words.specs.declared.commands.Program.{Program}
 use Rattle.surface_words.specs.declared.words.Words.{Words}
-use Rattle.surface_words.specs.declared.words.Words.TheVariants.{Check, Print, Run, Compile, Value, Gen, Stress, Ensemble}
+use Rattle.surface_words.specs.declared.words.Words.TheVariants.{Check, Print, Run, Compile, Value, Gen, Stress, Ensemble, Bench}
 use Rattle.surface_words.specs.FirstWrong.{first_wrong}
 use Rattle.surface_words.specs.Reading.{reading, reads}
 use Rattle.surface_top.specs.Checks.{check_text}
@@ -30,6 +33,7 @@ pub data Answer : Type 0 where
   TooLong : Answer
   BadManifest : (fault : ManifestFault) → Answer
   BadCircuit : (fault : CircuitFault) → Answer
+  BadNetlist : (fault : BenchFault) → Answer
   WrongInputs : (expected given : ℕ) → Answer
   TooManySites : (sites : ℕ) → Answer
   EventLimit : (limit : ℕ) (text : List ℕ) → Answer
@@ -89,6 +93,14 @@ abbrev pub by_circuit : (NetList → Answer) → Result NetList CircuitFault →
 by_circuit f (Ok c) = f c
 by_circuit f (Err fault) = BadCircuit fault
 
+-- the circuit text of a netlist
+abbrev pub bench_answer : Netlist → Answer
+bench_answer n = Text (circuit_text n)
+
+abbrev pub by_netlist : (Netlist → Answer) → Result Netlist BenchFault → Answer
+by_netlist f (Ok n) = f n
+by_netlist f (Err fault) = BadNetlist fault
+
 -- the canonical text of the manifest of a number
 abbrev pub gen_answer : ℕ → Answer
 gen_answer number = Text (canonical_text (generated_manifest number))
@@ -118,6 +130,7 @@ answer_within (Gen number) words bytes = gen_answer number
 answer_within (Stress workers number) words bytes = stress_answer number (generated_manifest number)
 answer_within (Ensemble workers seeds first until limit) words bytes =
     by_manifest (λ m. ensemble_answer (settings_of workers seeds first until limit m) m) (manifest_of bytes)
+answer_within Bench words bytes = by_netlist bench_answer (netlist_in bytes)
 
 -- a command that reads takes at most 67,108,864 bytes
 abbrev pub is_too_long : Words → List ℕ → Bool
@@ -144,5 +157,6 @@ text_of (WrongWord index) = []
 text_of TooLong = []
 text_of (BadManifest fault) = []
 text_of (BadCircuit fault) = []
+text_of (BadNetlist fault) = []
 text_of (WrongInputs expected given) = []
 text_of (TooManySites sites) = []

@@ -10,6 +10,8 @@ use Rattle.manifest_read.specs.declared.fault.ManifestFault.{ManifestFault}
 use Rattle.manifest_write.specs.Canon.{canonical_text}
 use Rattle.circuit_text.specs.declared.fault.CircuitFault.{CircuitFault}
 use Rattle.circuit_text.specs.Circuits.{NetList}
+use Rattle.bench_read.specs.declared.fault.BenchFault.{BenchFault}
+use Rattle.bench_read.specs.Netlists.{Netlist}
 use Rattle.surface_top.specs.declared.call.ManifestJob.{ManifestJob}
 use Rattle.surface_top.specs.declared.call.ManifestJob.TheVariants as job
 use Rattle.surface_top.specs.declared.call.CircuitJob.{CircuitJob}
@@ -19,7 +21,7 @@ use Rattle.surface_top.specs.declared.pages.Stop.{Stop}
 use Rattle.surface_top.specs.declared.pages.Stop.TheVariants as stop
 use Rattle.surface_top.specs.declared.ending.Ending.{Ending}
 use Rattle.surface_top.specs.declared.ending.Ending.TheVariants as ending
-use Rattle.surface_top.specs.Answer.{Answer, WrongWord, TooLong, BadManifest, BadCircuit, WrongInputs, TooManySites, EventLimit, Text, run_answer, scene_of, settings_of, ensemble_answer, compile_answer, value_answer}
+use Rattle.surface_top.specs.Answer.{Answer, WrongWord, TooLong, BadManifest, BadCircuit, BadNetlist, WrongInputs, TooManySites, EventLimit, Text, run_answer, scene_of, settings_of, ensemble_answer, compile_answer, value_answer}
 use Rattle.surface_top.specs.Checks.{check_text}
 use Rattle.surface_top.specs.Outcome.{own_status, HasText, OutGains}
 
@@ -30,6 +32,7 @@ answer_by (ending.WrongWord index) = WrongWord index
 answer_by ending.TooLong = TooLong
 answer_by (ending.BadManifest fault) = BadManifest fault
 answer_by (ending.BadCircuit fault) = BadCircuit fault
+answer_by (ending.BadNetlist fault) = BadNetlist fault
 answer_by (ending.WrongInputs expected given) = WrongInputs expected given
 answer_by (ending.TooManySites sites) = TooManySites sites
 answer_by (ending.EventLimit limit) = EventLimit limit []
@@ -50,6 +53,7 @@ IsEndingOf (ending.WrongWord index) a = a ≡ WrongWord index
 IsEndingOf ending.TooLong a = a ≡ TooLong
 IsEndingOf (ending.BadManifest fault) a = a ≡ BadManifest fault
 IsEndingOf (ending.BadCircuit fault) a = a ≡ BadCircuit fault
+IsEndingOf (ending.BadNetlist fault) a = a ≡ BadNetlist fault
 IsEndingOf (ending.WrongInputs expected given) a = a ≡ WrongInputs expected given
 IsEndingOf (ending.TooManySites sites) a = a ≡ TooManySites sites
 IsEndingOf (ending.EventLimit limit) a = (text : List ℕ) × (a ≡ EventLimit limit text)
@@ -118,6 +122,12 @@ abbrev pub IsNoCircuit : Ending → Result NetList CircuitFault → Type 0
 IsNoCircuit (ending.BadCircuit fault) read = read ≡ Err fault
 IsNoCircuit ending.Memory read = ⊤
 IsNoCircuit e read = ⊥
+
+-- the ending that stands for a text without a netlist
+abbrev pub IsNoNetlist : Ending → Result Netlist BenchFault → Type 0
+IsNoNetlist (ending.BadNetlist fault) read = read ≡ Err fault
+IsNoNetlist ending.Memory read = ⊤
+IsNoNetlist e read = ⊥
 
 -- the ending doesn't name a word
 abbrev pub IsAccepted : Ending → Type 0

@@ -12,3 +12,4 @@ pub mod Stops
 pub mod CircuitRuns
 pub mod Cuts
 pub mod Crewed
+pub mod NetlistTexts

@@ -13,7 +13,11 @@ use Rattle.circuit_text.specs.Faults.{kind_name}
 use Rattle.circuit_text.specs.declared.fault.CircuitFault.{CircuitFault}
 use Rattle.circuit_text.specs.declared.fault.CircuitKind.{CircuitKind}
 use Rattle.circuit_text.specs.declared.fault.CircuitKind.TheVariants as circuit
-use Rattle.surface_top.specs.Answer.{Answer, WrongWord, TooLong, BadManifest, BadCircuit, WrongInputs, TooManySites, EventLimit, Text, text_of}
+use Rattle.bench_read.specs.Passes.{kind_name as bench_kind_name}
+use Rattle.bench_read.specs.declared.fault.BenchFault.{BenchFault}
+use Rattle.bench_read.specs.declared.fault.BenchKind.{BenchKind}
+use Rattle.bench_read.specs.declared.fault.BenchKind.TheVariants as bench
+use Rattle.surface_top.specs.Answer.{Answer, WrongWord, TooLong, BadManifest, BadCircuit, BadNetlist, WrongInputs, TooManySites, EventLimit, Text, text_of}
 
 -- a count above its limit has the status of a limit, every other fault that of a faulty text
 
@@ -36,12 +40,20 @@ are_too_many kind = false
 abbrev pub circuit_status : CircuitKind → Status
 circuit_status kind = limit_or_faulty (are_too_many kind)
 
+abbrev pub has_too_many_nets : BenchKind → Bool
+has_too_many_nets bench.TooManyNets = true
+has_too_many_nets kind = false
+
+abbrev pub netlist_status : BenchKind → Status
+netlist_status kind = limit_or_faulty (has_too_many_nets kind)
+
 -- the status that an answer has where nothing else went wrong
 abbrev pub own_status : Answer → Status
 own_status (WrongWord index) = status.Words
 own_status TooLong = status.Limit
 own_status (BadManifest fault) = manifest_status fault.kind
 own_status (BadCircuit fault) = circuit_status fault.kind
+own_status (BadNetlist fault) = netlist_status fault.kind
 own_status (WrongInputs expected given) = status.Faulty
 own_status (TooManySites sites) = status.Limit
 own_status (EventLimit limit text) = status.Limit
@@ -69,6 +81,9 @@ manifest_note f = codes "manifest " ++ manifest_kind_text f.kind ++ codes " " ++
 abbrev pub circuit_note : CircuitFault → List ℕ
 circuit_note f = codes "circuit " ++ kind_name f.kind ++ codes " line " ++ decimal f.line ++ 10 ∷ []
 
+abbrev pub netlist_note : BenchFault → List ℕ
+netlist_note f = codes "bench " ++ bench_kind_name f.kind ++ codes " line " ++ decimal f.line ++ 10 ∷ []
+
 abbrev pub inputs_note : ℕ → ℕ → List ℕ
 inputs_note expected given = codes "circuit WrongInputs " ++ decimal expected ++ codes " " ++ decimal given ++ 10 ∷ []
 
@@ -78,6 +93,7 @@ answer_note (WrongWord index) = codes "words " ++ decimal index ++ 10 ∷ []
 answer_note TooLong = codes "limit bytes 67108864" ++ 10 ∷ []
 answer_note (BadManifest fault) = manifest_note fault
 answer_note (BadCircuit fault) = circuit_note fault
+answer_note (BadNetlist fault) = netlist_note fault
 answer_note (WrongInputs expected given) = inputs_note expected given
 answer_note (TooManySites sites) = codes "limit sites " ++ decimal sites ++ 10 ∷ []
 answer_note (EventLimit limit text) = codes "limit events " ++ decimal limit ++ 10 ∷ []

@@ -16,6 +16,7 @@ use crate::answers::{check, compile, generate, print, value};
 use crate::ending::Ending;
 use crate::ensembles::{EnsembleOptions, ensemble_manifest};
 use crate::message::message_of;
+use crate::netlists::answer_netlist;
 use crate::run::{RunOptions, run_manifest};
 use crate::stress::stress;
 use circuit_text::{Circuit, CircuitError, read_circuit};
@@ -209,6 +210,7 @@ fn answer_text<R: Threads + Sync, O: Sink, G: Gate>(
         }
         Words::Gen { number } => generate(alloc, number, out),
         Words::Stress { number, .. } => stress(alloc, number, out),
+        Words::Bench => answer_netlist(alloc, text, out),
     }
 }
 
@@ -275,10 +277,10 @@ fn put_message<N: Sink>(notes: &mut N, line: &[u8])
 
 /// The program `surface`: does what the words say with the text that the source holds, and writes to `out`.
 ///
-/// The commands `check`, `print`, `run` and `ensemble` read a manifest, `compile` and `value` read a circuit, and `gen`
-/// and `stress` read nothing. Where the words are wrong nothing is read. Else the source is read to its end, of at most
-/// 67,108,864 bytes, and then the first fault of the text decides; behind it, for `compile`, the size of the circuit's
-/// layout.
+/// The commands `check`, `print`, `run` and `ensemble` read a manifest, `compile` and `value` read a circuit, `bench` reads
+/// a netlist, and `gen` and `stress` read nothing. Where the words are wrong nothing is read. Else the source is read to
+/// its end, of at most 67,108,864 bytes, and then the first fault of the text decides; behind it, for `compile`, the size
+/// of the circuit's layout.
 ///
 /// - `Done`: the whole text of the answer was written to `out`.
 /// - `Words`: exactly where the words aren't accepted.

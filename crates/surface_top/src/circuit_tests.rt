@@ -114,7 +114,7 @@ fn a_chain_of_294_gates_is_compiled(rt: HostRuntime) -> Result<(), Fail> {
 }
 
 /// The status of words on a text, and what stands in the notes.
-fn refused<R: Threads + Sync + Abort>(
+pub(crate) fn refused<R: Threads + Sync + Abort>(
     rt: &R,
     alloc: Global,
     line: &str,

@@ -2,8 +2,9 @@
 
 ghost use Rattle.std.specs.Prelude.{◌≡◌};
 ghost use Rattle.surface_top.specs.Ending.{status_of};
-ghost use Rattle.surface_top.specs.Outcome.{manifest_status, circuit_status};
+ghost use Rattle.surface_top.specs.Outcome.{manifest_status, circuit_status, netlist_status};
 
+use bench_read::{BenchFault, BenchKind};
 use circuit_text::{CircuitFault, CircuitKind};
 use manifest_read::{ManifestFault, ManifestKind};
 use surf_kinds::Status;
@@ -16,6 +17,7 @@ pub(crate) enum Ending {
     TooLong,
     BadManifest(ManifestFault),
     BadCircuit(CircuitFault),
+    BadNetlist(BenchFault),
     WrongInputs { expected: u32, given: u64 },
     TooManySites(u64),
     EventLimit(u64),
@@ -44,6 +46,15 @@ fn circuit_status(kind: CircuitKind) -> Status
     }
 }
 
+fn netlist_status(kind: BenchKind) -> Status
+    ensures { result ≡ netlist_status kind }
+{
+    match kind {
+        BenchKind::TooManyNets => Status::Limit,
+        _ => Status::Faulty,
+    }
+}
+
 impl Ending {
     pub(crate) fn status(self) -> Status
         ensures { result ≡ status_of self }
@@ -54,6 +65,7 @@ impl Ending {
             Ending::TooLong | Ending::TooManySites(_) | Ending::EventLimit(_) => Status::Limit,
             Ending::BadManifest(fault) => manifest_status(fault.kind),
             Ending::BadCircuit(fault) => circuit_status(fault.kind),
+            Ending::BadNetlist(fault) => netlist_status(fault.kind),
             Ending::WrongInputs { .. } => Status::Faulty,
             Ending::ReadFault => Status::ReadFault,
             Ending::WriteFault => Status::WriteFault,

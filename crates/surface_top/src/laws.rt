@@ -1,6 +1,6 @@
 //! Laws of run texts, over their definitions alone, and of the runs of compiled circuits.
 
-ghost use Rattle.std.specs.Prelude.{◌≡◌, ◌<◌, ◌≤◌, ◌^◌, ◌++◌, ℕ, List, All, IfOk, length, sum};
+ghost use Rattle.std.specs.Prelude.{◌≡◌, ◌<◌, ◌≤◌, ◌^◌, ◌++◌, ℕ, List, All, IfOk, length, sum, ◌∷◌, [], codes};
 ghost use Rattle.surf_kinds.specs.declared.event.Event.{Event};
 ghost use Rattle.surf_kinds.specs.declared.site.SiteState.{SiteState};
 ghost use Rattle.surf_kinds.specs.declared.site.SpeciesId.{SpeciesId};
@@ -9,11 +9,15 @@ ghost use Rattle.one_engine.specs.State.{LeavesWithin};
 ghost use Rattle.trace_text.specs.Lines.{counts_of};
 ghost use Rattle.circuit_text.specs.Values.{values_of};
 ghost use Rattle.gate_layout.specs.Layout.{layout};
+ghost use Rattle.surface_words.specs.declared.commands.Program.TheVariants.{Surface};
+ghost use Rattle.surface_top.specs.Answer.{Text, specified_answer};
 ghost use Rattle.surface_top.specs.CircuitRuns.{IsLongRun, RunsToItsValues};
 ghost use Rattle.surface_top.specs.Cuts.{events_upto, surface_after, reached_after, first_part, text_by_ticks};
+ghost use Rattle.surface_top.specs.NetlistTexts.{KeepsValues};
 ghost use Rattle.surface_top.specs.RunText.{Scene, events_of, sampling_ticks, run_text, start};
 ghost use Rattle.surface_top.specs.Writing.{remaining_text};
 
+use bench_read::laws::netlists_keep_their_values;
 use circuit_text::Circuit;
 use crn_compile::{CompileError, compile};
 use manifest_read::Manifest;
@@ -60,4 +64,12 @@ pub fn compiled_circuits_run_to_their_values(
 {
     read_again();
     compile(alloc, circuit, inputs)
+}
+
+/// Netlists keep their values. Where `bench` answers bytes by a text, these are the bytes of a netlist, the text is accepted
+/// as a circuit, and for all inputs each output of the circuit has the value of the netlist's.
+pub fn circuit_texts_keep_the_values_of_netlists()
+    ensures { (bytes text : List ℕ) → specified_answer Surface (codes "bench" ∷ []) bytes ≡ Text text → KeepsValues bytes text }
+{
+    netlists_keep_their_values();
 }

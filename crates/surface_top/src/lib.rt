@@ -2,12 +2,13 @@
 //!
 //! [`surface_main`] does what the words say. What it writes is defined in `specs/Answer.antt`: of a manifest its
 //! sizes, its canonical text, its run text (`specs/RunText.antt`) or what its runs with many seeds come to, of a circuit
-//! the values of its outputs or the manifest that it is compiled to, of a number the generated manifest or how a run of
-//! it ends. A run goes by a crew, and what each of its rounds hands out goes to the one writer of run texts before the
-//! next round begins. A run of `stress` fires the next event of the surface, one after the other.
+//! the values of its outputs or the manifest that it is compiled to, of a netlist its circuit text, of a number the
+//! generated manifest or how a run of it ends. A run goes by a crew, and what each of its rounds hands out goes to the one
+//! writer of run texts before the next round begins. A run of `stress` fires the next event of the surface, one after the
+//! other.
 //!
-//! The crate stands on the readers of words, manifests and circuits, on the compiler of circuits and the generator of
-//! manifests, on the crew, on the engine and the ensemble, and on the writers of texts.
+//! The crate stands on the readers of words, manifests, circuits and netlists, on the compiler of circuits and the
+//! generator of manifests, on the crew, on the engine and the ensemble, and on the writers of texts.
 #![tactic(auto)]
 
 mod answers;
@@ -17,6 +18,7 @@ mod ending;
 mod ensembles;
 pub mod laws;
 mod message;
+mod netlists;
 mod pages;
 mod rounds;
 mod run;
@@ -30,5 +32,7 @@ pub use surface_words::{Program, Words};
 
 #[cfg(test)]
 mod circuit_tests;
+#[cfg(test)]
+mod netlist_tests;
 #[cfg(test)]
 mod tests;

@@ -2,9 +2,10 @@
 
 ghost use Rattle.std.specs.Prelude.{◌≡◌, IfOk, string_bytes};
 ghost use Rattle.surface_top.specs.Ending.{status_of, answer_by};
-ghost use Rattle.surface_top.specs.Outcome.{manifest_note, circuit_note, inputs_note, message};
+ghost use Rattle.surface_top.specs.Outcome.{manifest_note, circuit_note, netlist_note, inputs_note, message};
 
 use crate::ending::Ending;
+use bench_read::BenchFault;
 use circuit_text::CircuitFault;
 use manifest_read::ManifestFault;
 use std::alloc::{AllocError, Global};
@@ -26,6 +27,14 @@ fn circuit_line(alloc: Global, fault: CircuitFault) -> Result<String, AllocError
     format!(in alloc; "circuit {kind} line {line}\n")
 }
 
+fn netlist_line(alloc: Global, fault: BenchFault) -> Result<String, AllocError>
+    ensures { IfOk result (λ line. string_bytes line ≡ netlist_note fault) }
+{
+    let kind = fault.kind.name();
+    let line = fault.line;
+    format!(in alloc; "bench {kind} line {line}\n")
+}
+
 fn inputs_line(alloc: Global, expected: u32, given: u64) -> Result<String, AllocError>
     ensures { IfOk result (λ line. string_bytes line ≡ inputs_note expected given) }
 {
@@ -43,6 +52,7 @@ pub(crate) fn message_of(alloc: Global, ending: Ending) -> Result<String, AllocE
         Ending::TooLong => String::from_str(alloc, "limit bytes 67108864\n"),
         Ending::BadManifest(fault) => manifest_line(alloc, fault),
         Ending::BadCircuit(fault) => circuit_line(alloc, fault),
+        Ending::BadNetlist(fault) => netlist_line(alloc, fault),
         Ending::WrongInputs { expected, given } => inputs_line(alloc, expected, given),
         Ending::TooManySites(sites) => format!(in alloc; "limit sites {sites}\n"),
         Ending::EventLimit(limit) => format!(in alloc; "limit events {limit}\n"),

@@ -3,7 +3,7 @@ use Rattle.std.specs.Prelude.{ℕ, Bool, true, false, ◌+◌, ◌^◌, ◌<◌,
 use Rattle.std.specs.Option.{option_map, option_and_then}
 use Rattle.surface_words.specs.declared.commands.Program.{Program}
 use Rattle.surface_words.specs.declared.commands.Command.{Command}
-use Rattle.surface_words.specs.declared.commands.Command.TheVariants.{Check, Print, Run, Compile, Value, Gen, Stress, Ensemble}
+use Rattle.surface_words.specs.declared.commands.Command.TheVariants.{Check, Print, Run, Compile, Value, Gen, Stress, Ensemble, Bench}
 use Rattle.surface_words.specs.declared.options.OptionName.{OptionName}
 use Rattle.surface_words.specs.declared.options.OptionName.TheVariants.{Workers, Seed, Until, Samples, Limit, Inputs, Number, Seeds, First}
 use Rattle.surface_words.specs.declared.words.Words.{Words}
@@ -45,6 +45,7 @@ words_of Ensemble pairs = variant.Ensemble
     (unwrap_or (number_given First pairs) 0)
     (number_given Until pairs)
     (unwrap_or (number_given Limit pairs) 1000000)
+words_of Bench pairs = variant.Bench
 
 -- what a list of words spells, whether it is accepted or not
 abbrev pub spelled_words : Program → List (List ℕ) → Option Words
@@ -65,6 +66,7 @@ reads (variant.Value inputs) = true
 reads (variant.Gen number) = false
 reads (variant.Stress workers number) = false
 reads (variant.Ensemble workers seeds first until limit) = true
+reads variant.Bench = true
 
 -- the bounds of a run
 pub record IsRunInRange (workers : ℕ) (until : Option ℕ) (samples limit : ℕ) : Type 0 where
@@ -99,3 +101,4 @@ IsInRange count (variant.Value inputs) = IfSome inputs (λ index. index < count)
 IsInRange count (variant.Gen number) = number ≤ 1000000000
 IsInRange count (variant.Stress workers number) = IsStressInRange workers number
 IsInRange count (variant.Ensemble workers seeds first until limit) = IsEnsembleInRange workers seeds until limit
+IsInRange count variant.Bench = Unit {0}

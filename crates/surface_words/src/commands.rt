@@ -22,6 +22,7 @@ pub(crate) enum Command {
     Gen,
     Stress,
     Ensemble,
+    Bench,
 }
 
 impl Command {
@@ -39,6 +40,7 @@ impl Command {
                 "gen" => Some(Command::Gen),
                 "stress" => Some(Command::Stress),
                 "ensemble" => Some(Command::Ensemble),
+                "bench" => Some(Command::Bench),
                 _ => None,
             },
             Program::Watch => None,
@@ -49,7 +51,7 @@ impl Command {
         ensures { result ≡ has_option self option }
     {
         match self {
-            Command::Check | Command::Print => false,
+            Command::Check | Command::Print | Command::Bench => false,
             Command::Run => match option {
                 OptionName::Workers
                 | OptionName::Seed

@@ -60,6 +60,7 @@ fn accepted_words(rt: HostRuntime) -> Result<(), Fail> {
             "ensemble --first 18446744073709551615 --limit 7 --seeds 1000 --until 2",
             ensemble(1_000, 18_446_744_073_709_551_615, Some(2_000_000), 7),
         ),
+        ("bench", Words::Bench),
     ] {
         assert_eq!(rt; read(rt.alloc(), line, Program::Surface)?, Ok(words));
         assert!(rt; words.reads());
@@ -135,6 +136,7 @@ fn the_first_wrong_word_is_named(rt: HostRuntime) -> Result<(), Fail> {
         ("ensemble --seeds 1001", 2),
         ("ensemble --first 18446744073709551616", 2),
         ("ensemble --first 0 --samples 1", 3),
+        ("bench --inputs 1", 1),
         ("run --workers 2 --workers 2", 3),
         ("run --workers 2 --seed", 4),
         ("run --workers 2 --seed x y", 4),

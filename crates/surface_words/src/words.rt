@@ -56,6 +56,7 @@ pub enum Words {
         /// The most events of a run, at most 10,000,000.
         limit: u64,
     },
+    Bench,
 }
 
 impl Words {
@@ -93,6 +94,7 @@ impl Words {
                 until: given.until,
                 limit: given.limit.unwrap_or(1_000_000),
             },
+            Command::Bench => Words::Bench,
         }
     }
 
@@ -130,7 +132,8 @@ impl Words {
             | Words::Run { .. }
             | Words::Compile { .. }
             | Words::Value { .. }
-            | Words::Ensemble { .. } => true,
+            | Words::Ensemble { .. }
+            | Words::Bench => true,
             Words::Gen { .. } | Words::Stress { .. } => false,
         }
     }
