@@ -9,6 +9,7 @@ use crate::telling::ask;
 use crate::totals::Turn;
 use plan::Plan;
 use regions::Cut;
+use std::thread;
 use surf_kinds::{Key, Place};
 
 /// Sends to a neighbour what its ring takes.
@@ -133,6 +134,14 @@ impl Region {
         (taken, made)
     }
 
+    /// After every fourth entry of a region with neighbours, lets another thread run if one waits. Where there are more
+    /// regions than processors, their turns then go on side by side, and far fewer guesses are undone.
+    fn make_way(&self, added: u64) {
+        if self.board.undoable && added % 4 == 0 {
+            thread::yield_now();
+        }
+    }
+
     /// Hears before each entry, and adds so many entries, or fewer where nothing is left; then the clock is the end key.
     /// Answers how many entries were added, and how many messages were taken: as many at most.
     fn add_entries(&mut self, plan: &Plan, cut: &Cut, quota: u64, until: u64) -> (u64, u64)
@@ -153,6 +162,7 @@ impl Region {
                 return (added, taken);
             }
             added += 1;
+            self.make_way(added);
         }
         (added, taken)
     }
