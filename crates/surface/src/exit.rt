@@ -1,11 +1,12 @@
 //! The exit status of the program.
 
-ghost use Rattle.std.specs.Prelude.{◌≡◌, [], drop, map, string_bytes};
+ghost use Rattle.std.specs.Prelude.{◌≡◌, Option, drop, map, string_bytes};
+ghost use Rattle.crew.specs.Crews.{CrewView};
 ghost use Rattle.surf_kinds.specs.declared.status.Status.{Status};
 ghost use Rattle.surf_kinds.specs.Status.{code_of};
 ghost use Rattle.surface_words.specs.declared.commands.Program.TheVariants.{Surface};
-ghost use Rattle.surface_top.specs.Answer.{specified_answer};
-ghost use Rattle.surface_top.specs.Outcome.{IsOutcome, source_view, sink_view, outside};
+ghost use Rattle.surface_top.specs.Outcome.{source_view, sink_view, outside};
+ghost use Rattle.surface_top.specs.Reporting.{IsAnsweredCall};
 ghost use Rattle.surface.specs.Exit.{no_words, no_words_code};
 
 use std::alloc::Global;
@@ -64,9 +65,11 @@ pub(crate) fn exit_code<R: Threads + Sync, S: Source, O: Sink, N: Sink>(
     out: &mut O,
     notes: &mut N,
 ) -> u8
-    ensures { (status : Status) × (result ≡ code_of status) × IsOutcome (specified_answer Surface (map string_bytes words.now)) [] status
+    ensures { (status : Status) × (kept : Option CrewView) × (result ≡ code_of status) × IsAnsweredCall Surface (map string_bytes words.now) status kept
         (outside (source_view (S.unread source.old) (S.faults source.old)) (sink_view (O.written out.old) (O.faults out.old)) (sink_view (N.written notes.old) (N.faults notes.old)))
         (outside (source_view (S.unread source.new) (S.faults source.new)) (sink_view (O.written out.new) (O.faults out.new)) (sink_view (N.written notes.new) (N.faults notes.new))) }
 {
-    surface_main(rt, alloc, words, source, out, notes, &OpenGate).code()
+    let mut kept = None;
+    let status = surface_main(rt, alloc, words, &mut kept, source, out, notes, &OpenGate);
+    status.code()
 }

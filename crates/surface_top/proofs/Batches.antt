@@ -15,6 +15,7 @@ use Rattle.surface_top.specs.declared.writer.Writer.{Writer}
 use Rattle.surface_top.specs.Pages.{Page, Waiting}
 use Rattle.surface_top.specs.RunText.{Scene}
 use Rattle.surface_top.specs.Writing.{reached_of, IsReady, Progress}
+use Rattle.surface_top.proofs.Applying.{dropped}
 use Rattle.surface_top.proofs.Progressing.{progress_start, progress_more}
 
 -- the first i of a list of events were written
@@ -28,9 +29,6 @@ pub record WritingList (s : Scene) (w v : Writer) (events : List Event) (i : ℕ
 
 pub writing_start : (s : Scene) (w : Writer) (events : List Event) (a : Page) → IsReady s w → AreNext s.network s.until w.surface.sites events → WritingList s w w events 0 a a
 writing_start s w events a h next = record { ready = h; inside = omega arith; count = omega arith; next = next; progress = progress_start s (reached_of w) a; sites = refl }
-
-dropped : (events : List Event) (i : ℕ) (d : Event) → i < length events → drop i events ≡ get_or events i d ∷ drop (i + 1) events
-dropped events i d h = let one : i + 1 ≡ suc i = omega arith in drop-cons events i d h ∙ ap (λ k. get_or events i d ∷ drop k events) (sym one)
 
 pub writing_due : (s : Scene) (w v : Writer) (events : List Event) (i : ℕ) (d : Event) (a b : Page) → WritingList s w v events i a b → i < length events → due s.network s.until v.surface.sites ≡ Some (get_or events i d)
 writing_due s w v events i d a b t h = (subst (AreNext s.network s.until v.surface.sites) (dropped events i d h) t.next).0

@@ -27,19 +27,23 @@ given_agrees (Some all) bytes = refl
 
 -- nothing was read of the answer, and nothing written
 
-pub ends_read_fault : (answer : List ℕ → Answer) (unread old : Option (List ℕ)) → EndsAs answer ending.ReadFault unread old old
-ends_read_fault answer unread old = record { bytes = given unread []; agrees = given_agrees unread []; is_of = tt; gains = appends_none old }
+pub ends_read_fault : (answer : List ℕ → Answer) (Besides : List ℕ → Type 0) (unread old : Option (List ℕ)) → ((bytes : List ℕ) → Besides bytes) → EndsAs answer Besides ending.ReadFault unread old old
+ends_read_fault answer Besides unread old rest =
+    record { bytes = given unread []; agrees = given_agrees unread []; is_of = tt; gains = appends_none old; besides = rest (given unread []) }
 
-pub ends_memory : (answer : List ℕ → Answer) (unread old : Option (List ℕ)) → EndsAs answer ending.Memory unread old old
-ends_memory answer unread old = record { bytes = given unread []; agrees = given_agrees unread []; is_of = tt; gains = (0, appends_none old) }
+pub ends_memory : (answer : List ℕ → Answer) (Besides : List ℕ → Type 0) (unread old : Option (List ℕ)) → ((bytes : List ℕ) → Besides bytes) → EndsAs answer Besides ending.Memory unread old old
+ends_memory answer Besides unread old rest =
+    record { bytes = given unread []; agrees = given_agrees unread []; is_of = tt; gains = (0, appends_none old); besides = rest (given unread []) }
 
 -- the answer is this one, which has no text
-pub ends_bare : (answer : List ℕ → Answer) (e : Ending) (a : Answer) (bytes : List ℕ) (unread old : Option (List ℕ)) → answer (given unread bytes) ≡ a → IsEndingOf e a → OutGains (status_of e) a old old → EndsAs answer e unread old old
-ends_bare answer e a bytes unread old is h g = record {
+pub ends_bare : (answer : List ℕ → Answer) (Besides : List ℕ → Type 0) (e : Ending) (a : Answer) (bytes : List ℕ) (unread old : Option (List ℕ)) → answer (given unread bytes) ≡ a → IsEndingOf e a → OutGains (status_of e) a old old
+    → Besides (given unread bytes) → EndsAs answer Besides e unread old old
+ends_bare answer Besides e a bytes unread old is h g rest = record {
   bytes = given unread bytes;
   agrees = given_agrees unread bytes;
   is_of = subst (IsEndingOf e) (sym is) h;
   gains = subst (λ x. OutGains (status_of e) x old old) (sym is) g;
+  besides = rest;
 }
 
 -- a source that gave more bytes has more
@@ -55,52 +59,58 @@ too_long command bytes h more =
     let test : nat_lt 67108864 (length bytes) ≡ true = grind (arith, nat_tests) in
     ap (λ b. b && nat_lt 67108864 (length bytes)) h ∙ test
 
-short : (command : Words) (bytes : List ℕ) → reads command ≡ true → length bytes ≤ 67108864 → is_too_long command bytes ≡ false
+pub short : (command : Words) (bytes : List ℕ) → reads command ≡ true → length bytes ≤ 67108864 → is_too_long command bytes ≡ false
 short command bytes h few =
     let test : nat_lt 67108864 (length bytes) ≡ false = grind (arith, nat_tests) in
     ap (λ b. b && nat_lt 67108864 (length bytes)) h ∙ test
 
-pub ends_too_long : (words : List (List ℕ)) (command : Words) (bytes : List ℕ) (unread rest old : Option (List ℕ)) → reads command ≡ true → Consumes unread rest bytes → 67108864 < length bytes → EndsAs (answer_to words command) ending.TooLong unread old old
-ends_too_long words command bytes unread rest old h taken more =
-    ends_bare (answer_to words command) ending.TooLong TooLong bytes unread old
-    (ap (λ b. cond b TooLong (answer_within command words (given unread bytes))) (too_long command (given unread bytes) h (given_more unread rest bytes 67108864 taken more)))
-    refl (appends_none old)
+pub ends_too_long : (words : List (List ℕ)) (command : Words) (Besides : List ℕ → Type 0) (bytes : List ℕ) (unread rest old : Option (List ℕ)) → reads command ≡ true → Consumes unread rest bytes → 67108864 < length bytes
+    → ((all : List ℕ) → is_too_long command all ≡ true → Besides all) → EndsAs (answer_to words command) Besides ending.TooLong unread old old
+ends_too_long words command Besides bytes unread rest old h taken more besides =
+    let long = too_long command (given unread bytes) h (given_more unread rest bytes 67108864 taken more) in
+    ends_bare (answer_to words command) Besides ending.TooLong TooLong bytes unread old
+    (ap (λ b. cond b TooLong (answer_within command words (given unread bytes))) long)
+    refl (appends_none old) (besides (given unread bytes) long)
 
 -- the text that was read is answered
-pub ends_within : (words : List (List ℕ)) (command : Words) (text : List ℕ) (e : Ending) (unread old new : Option (List ℕ)) → reads command ≡ true → length text ≤ 67108864 → IfSome unread (λ all. text ≡ all)
-    → IsEndingOf e (answer_within command words text) → OutGains (status_of e) (answer_within command words text) old new → EndsAs (answer_to words command) e unread old new
-ends_within words command text e unread old new h few agrees is gains =
+pub ends_within : (words : List (List ℕ)) (command : Words) (Besides : List ℕ → Type 0) (text : List ℕ) (e : Ending) (unread old new : Option (List ℕ)) → reads command ≡ true → length text ≤ 67108864 → IfSome unread (λ all. text ≡ all)
+    → IsEndingOf e (answer_within command words text) → OutGains (status_of e) (answer_within command words text) old new → Besides text → EndsAs (answer_to words command) Besides e unread old new
+ends_within words command Besides text e unread old new h few agrees is gains rest =
     let same : answer_to words command text ≡ answer_within command words text = ap (λ b. cond b TooLong (answer_within command words text)) (short command text h few) in
     record {
       bytes = text;
       agrees = agrees;
       is_of = subst (IsEndingOf e) (sym same) is;
       gains = subst (λ x. OutGains (status_of e) x old new) (sym same) gains;
+      besides = rest;
     }
 
 -- accepted words are answered by what they say
-pub ends_accepted : (words : List (List ℕ)) (command : Words) (e : Ending) (unread old new : Option (List ℕ)) → reading Surface words ≡ Some command → EndsAs (answer_to words command) e unread old new → EndsAs (specified_answer Surface words) e unread old new
-ends_accepted words command e unread old new is h =
+pub ends_accepted : (words : List (List ℕ)) (command : Words) (Besides More : List ℕ → Type 0) (e : Ending) (unread old new : Option (List ℕ)) → reading Surface words ≡ Some command → EndsAs (answer_to words command) Besides e unread old new
+    → ((bytes : List ℕ) → Besides bytes → More bytes) → EndsAs (specified_answer Surface words) More e unread old new
+ends_accepted words command Besides More e unread old new is h more =
     let same : specified_answer Surface words h.bytes ≡ answer_to words command h.bytes = ap (λ o. option_map_or (λ c. answer_to words c h.bytes) o (WrongWord (unwrap_or (first_wrong Surface words) 0))) is in
     record {
       bytes = h.bytes;
       agrees = h.agrees;
       is_of = subst (IsEndingOf e) (sym same) h.is_of;
       gains = subst (λ x. OutGains (status_of e) x old new) (sym same) h.gains;
+      besides = more h.bytes h.besides;
     }
 
 -- others by their first wrong one
-pub ends_wrong : (words : List (List ℕ)) (index : ℕ) (unread old : Option (List ℕ)) → reading Surface words ≡ None → first_wrong Surface words ≡ Some index → EndsAs (specified_answer Surface words) (ending.WrongWord index) unread old old
-ends_wrong words index unread old none first =
-    ends_bare (specified_answer Surface words) (ending.WrongWord index) (WrongWord index) [] unread old
+pub ends_wrong : (words : List (List ℕ)) (Besides : List ℕ → Type 0) (index : ℕ) (unread old : Option (List ℕ)) → reading Surface words ≡ None → first_wrong Surface words ≡ Some index → ((bytes : List ℕ) → Besides bytes)
+    → EndsAs (specified_answer Surface words) Besides (ending.WrongWord index) unread old old
+ends_wrong words Besides index unread old none first rest =
+    ends_bare (specified_answer Surface words) Besides (ending.WrongWord index) (WrongWord index) [] unread old
     (ap (λ o. option_map_or (λ c. answer_to words c (given unread [])) o (WrongWord (unwrap_or (first_wrong Surface words) 0))) none ∙ ap (λ o. WrongWord (unwrap_or o 0)) first)
-    refl (appends_none old)
+    refl (appends_none old) (rest (given unread []))
 
 -- a command that reads nothing has one answer, whatever the bytes are
 same_answer : (words : List (List ℕ)) (command : Words) (xs ys : List ℕ) → reads command ≡ false → answer_within command words xs ≡ answer_to words command ys
 same_answer words said.Check xs ys h = absurd (cc)
 same_answer words said.Print xs ys h = absurd (cc)
-same_answer words (said.Run workers seed until samples limit) xs ys h = absurd (cc)
+same_answer words (said.Run workers seed until samples limit quota slots report) xs ys h = absurd (cc)
 same_answer words (said.Compile inputs) xs ys h = absurd (cc)
 same_answer words (said.Value inputs) xs ys h = absurd (cc)
 same_answer words (said.Ensemble workers seeds first until limit) xs ys h = absurd (cc)
@@ -108,15 +118,16 @@ same_answer words said.Bench xs ys h = absurd (cc)
 same_answer words (said.Gen number) xs ys h = refl
 same_answer words (said.Stress workers number) xs ys h = refl
 
-pub ends_alone : (words : List (List ℕ)) (command : Words) (text : List ℕ) (e : Ending) (unread old new : Option (List ℕ)) → reads command ≡ false
-    → IsEndingOf e (answer_within command words text) → OutGains (status_of e) (answer_within command words text) old new → EndsAs (answer_to words command) e unread old new
-ends_alone words command text e unread old new h is gains =
+pub ends_alone : (words : List (List ℕ)) (command : Words) (Besides : List ℕ → Type 0) (text : List ℕ) (e : Ending) (unread old new : Option (List ℕ)) → reads command ≡ false
+    → IsEndingOf e (answer_within command words text) → OutGains (status_of e) (answer_within command words text) old new → ((bytes : List ℕ) → Besides bytes) → EndsAs (answer_to words command) Besides e unread old new
+ends_alone words command Besides text e unread old new h is gains rest =
     let same = same_answer words command text (given unread []) h in
     record {
       bytes = given unread [];
       agrees = given_agrees unread [];
       is_of = subst (IsEndingOf e) same is;
       gains = subst (λ x. OutGains (status_of e) x old new) same gains;
+      besides = rest (given unread []);
     }
 
 -- words that aren't accepted say nothing

@@ -77,14 +77,14 @@ shows_last m seed (suc k) n is few some =
     shows (events_of s sites) s (start s sites) ticks.0 n (is_history s.network s.until sites) ticks.1 (omega (arith, is)) few
 
 -- what is answered to the canonical text
-answer_is : (m : Manifest) (seed : Option ℕ) (workers samples : ℕ) (words : List (List ℕ)) → manifest_of (canonical_text m) ≡ Ok m → length (canonical_text m) ≤ 67108864
-    → length (events_of (long_scene m seed samples) (first_surface m.cells)) ≤ 10000000 → reading Surface words ≡ Some (Run workers seed None samples 10000000)
+answer_is : (m : Manifest) (seed : Option ℕ) (workers samples quota slots : ℕ) (report : Bool) (words : List (List ℕ)) → manifest_of (canonical_text m) ≡ Ok m → length (canonical_text m) ≤ 67108864
+    → length (events_of (long_scene m seed samples) (first_surface m.cells)) ≤ 10000000 → reading Surface words ≡ Some (Run workers seed None samples 10000000 quota slots report)
     → specified_answer Surface words (canonical_text m) ≡ Text (run_text (long_scene m seed samples) (first_surface m.cells))
-answer_is m seed workers samples words again short few said =
+answer_is m seed workers samples quota slots report words again short few said =
     let s = long_scene m seed samples in
     let sites = first_surface m.cells in
     let text = canonical_text m in
-    let command = Run workers seed None samples 10000000 in
+    let command = Run workers seed None samples 10000000 quota slots report in
     ap (λ o. option_map_or (λ x. answer_to words x text) o (WrongWord (unwrap_or (first_wrong Surface words) 0))) said
     ∙ not_over 67108864 (length text) _ (answer_within command words text) short
     ∙ ap (by_manifest (λ x. run_answer (scene_of seed None samples 10000000 x) x)) again
@@ -92,7 +92,7 @@ answer_is m seed workers samples words again short few said =
 
 runs_to_values : (c : NetList) (inputs values : List Bool) (t : Table) (m : Manifest) → IsCompiled c inputs t m → manifest_of (canonical_text m) ≡ Ok m → length (canonical_text m) ≤ 67108864 → ((k : ℕ) → RunsOut c values t m.cells k (10 ^ 15))
     → (words : List (List ℕ)) (samples : ℕ) → IsLongRun words samples → RunsToItsValues c values t m words samples
-runs_to_values c inputs values t m k again short runs words samples (workers, seed, said) =
+runs_to_values c inputs values t m k again short runs words samples (workers, seed, quota, slots, report, said) =
     let s = long_scene m seed samples in
     let sites = first_surface m.cells in
     let is = count c inputs values t m seed samples k runs in
@@ -100,7 +100,7 @@ runs_to_values c inputs values t m k again short runs words samples (workers, se
     record {
       text = run_text s sites;
       last = last_of m seed;
-      answer = answer_is m seed workers samples words again short (omega (arith, is, few)) said;
+      answer = answer_is m seed workers samples quota slots report words again short (omega (arith, is, few)) said;
       ends = ends (events_of s sites) s (start s sites) (work m.cells) (omega (arith, is)) few;
       shows = shows_last m seed samples (work m.cells) is few;
       outputs = finished c inputs values t m seed k runs;

@@ -102,7 +102,7 @@ round_next s c d r es along later is =
     (between_next c.network c.until (world_in c).start c.horizon d.horizon (lt_to_le c.horizon d.horizon later)))))
 
 -- the same with the other numbers and regions that a round leaves
-round_along : (s : Scene) (c d : CrewView) (rounds committed : ℕ) (r q : Reached) (es : List Event) → IsAlong s c r → c.horizon is_below d.horizon → es ≡ from c.horizon (below d.horizon (world_in c).history)
+pub round_along : (s : Scene) (c d : CrewView) (rounds committed : ℕ) (r q : Reached) (es : List Event) → IsAlong s c r → c.horizon is_below d.horizon → es ≡ from c.horizon (below d.horizon (world_in c).history)
     → d ≡ record c { horizon = d.horizon; rounds = rounds; committed = committed; regions = d.regions } → q.sites ≡ after_all s.network.lattice s.network.rules r.sites es → q.events ≡ r.events + length es → IsAlong s d q
 round_along s c d rounds committed r q es along later is moved after_is count =
     subst (λ (x : CrewView). IsAlong s x q) (sym moved) (record {

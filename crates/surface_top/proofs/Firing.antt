@@ -8,19 +8,17 @@ use Rattle.lattice.specs.Shape.{Shape}
 use Rattle.lattice.specs.Places.{IsPlace}
 use Rattle.lattice.specs.Surface.{after, IsChannelOf, HasRoom}
 use Rattle.plan.specs.Products.{products_of}
-use Rattle.plan.proofs.LawLemmas.{due_next, offer_fits, fits_products}
 use Rattle.ordered_commit.specs.Count.{Count}
 use Rattle.surface_state.specs.SurfaceView.{SurfaceView}
 use Rattle.surface_state.specs.Changes.{applied, IsSecondOf, AreBelow}
-use Rattle.surface_state.proofs.LawLemmas.{applied_after}
-use Rattle.one_engine.specs.State.{LeavesWithin}
-use Rattle.one_engine.specs.Running.{IsSettled, CanFire}
-use Rattle.one_engine.proofs.LawLemmas.{can_fire, settled_after, leaves_products}
+use Rattle.plan.specs.Products.{LeavesWithin}
 use Rattle.surface_top.specs.declared.writer.Writer.{Writer}
+use Rattle.surface_top.specs.Counting.{GoesOn}
 use Rattle.surface_top.specs.RunText.{Scene, Reached, reached, ticks_from, ticks_before}
 use Rattle.plan.specs.History.{due}
 use Rattle.surface_top.specs.Writing.{reached_of, IsReady}
 use Rattle.surface_top.proofs.Sampling.{within_from, all_before}
+use Rattle.surface_top.proofs.Applying.{at_place, of_channel, with_room, with_pair, of_species, applied_is, goes_on_after}
 use Rattle.surface_top.proofs.Progressing.{IsDue}
 
 -- a writer that has shown its surface is ready still
@@ -42,33 +40,27 @@ due_shown s w v time e is h =
     ap (λ (x : Writer). due s.network s.until x.surface.sites) is ∙ h
 
 -- the event can happen on the writer's surface
-fires : (s : Scene) (v : Writer) (e : Event) → IsReady s v → IsDue s (reached_of v) e → CanFire s.network v.surface.sites e
-fires s v e h d = can_fire s.network s.until v.surface.sites e d h.settled
 
-pub fires_place : (s : Scene) (v : Writer) (e : Event) → IsReady s v → IsDue s (reached_of v) e → IsPlace s.network.lattice e.place.0
-fires_place s v e h d = (fires s v e h d).place
+ready_goes_on : (s : Scene) (v : Writer) → IsReady s v → GoesOn s.network v.surface
+ready_goes_on s v h = record { lattice = h.lattice; species = h.species; settled = h.settled }
 
 pub fires_place_here : (s : Scene) (v : Writer) (e : Event) → IsReady s v → IsDue s (reached_of v) e → IsPlace v.surface.lattice e.place.0
-fires_place_here s v e h d = subst (λ (l : Shape). IsPlace l e.place.0) (sym h.lattice) (fires s v e h d).place
+fires_place_here s v e h d = at_place s.network s.until v.surface e (ready_goes_on s v h) d
+
+pub fires_place : (s : Scene) (v : Writer) (e : Event) → IsReady s v → IsDue s (reached_of v) e → IsPlace s.network.lattice e.place.0
+fires_place s v e h d = subst (λ (l : Shape). IsPlace l e.place.0) h.lattice (fires_place_here s v e h d)
 
 pub fires_channel : (s : Scene) (v : Writer) (e : Event) → IsReady s v → IsDue s (reached_of v) e → IsChannelOf s.network.rules e.channel
-fires_channel s v e h d = (fires s v e h d).channel
+fires_channel s v e h d = of_channel s.network s.until v.surface e (ready_goes_on s v h) d
 
 pub fires_room : (s : Scene) (v : Writer) (e : Event) → IsReady s v → IsDue s (reached_of v) e → HasRoom v.surface.lattice v.surface.sites e.place.0
-fires_room s v e h d = subst (λ (l : Shape). HasRoom l v.surface.sites e.place.0) (sym h.lattice) (fires s v e h d).has_room
+fires_room s v e h d = with_room s.network s.until v.surface e (ready_goes_on s v h) d
 
 pub fires_pair : (s : Scene) (v : Writer) (e : Event) (to : SpeciesId × Option SpeciesId) → IsReady s v → IsDue s (reached_of v) e → Some to ≡ products_of s.network.rules e.channel → IsSecondOf v.surface.lattice e.place.0 to.1
-fires_pair s v e to h d is =
-    subst (λ (l : Shape). IsSecondOf l e.place.0 to.1) (sym h.lattice)
-    (fits_products s.network e.place.0 e.channel to (offer_fits s.network v.surface.sites e.place.0 e (due_next s.network s.until v.surface.sites e d).0) is)
+fires_pair s v e to h d is = with_pair s.network s.until v.surface e to (ready_goes_on s v h) d is
 
 pub fires_species : (s : Scene) (v : Writer) (e : Event) (to : SpeciesId × Option SpeciesId) → IsReady s v → Some to ≡ products_of s.network.rules e.channel → AreBelow v.surface.species_count to.0 to.1
-fires_species s v e to h is = leaves_products v.surface.species_count s.network.rules e.channel to h.species is
-
--- the surface with the products of the event is the surface after it
-after_event : (s : Scene) (v : Writer) (surface : SurfaceView) (e : Event) (to : SpeciesId × Option SpeciesId) → IsReady s v → Some to ≡ products_of s.network.rules e.channel → surface ≡ applied v.surface e to → surface ≡ record v.surface { sites = after s.network.lattice s.network.rules v.surface.sites e }
-after_event s v surface e to h is ap_is =
-    ap_is ∙ ap (λ (xs : List SiteState). record v.surface { sites = xs }) (applied_after v.surface s.network.rules e to is ∙ ap (λ (k : Shape). after k s.network.rules v.surface.sites e) h.lattice)
+fires_species s v e to h is = of_species s.network v.surface e.channel to (ready_goes_on s v h) is
 
 -- a writer before an event and after it: it has shown its surface, admitted the event, and fired it
 pub record Fires (s : Scene) (w v u : Writer) (e : Event) : Type 0 where
@@ -93,7 +85,7 @@ sites_v : (s : Scene) (w v u : Writer) (e : Event) → Fires s w v u e → v.sur
 sites_v s w v u e f = ap (λ (x : Writer). x.surface.sites) f.shown
 
 surface_u : (s : Scene) (w v u : Writer) (e : Event) (f : Fires s w v u e) → f.surface ≡ record v.surface { sites = after s.network.lattice s.network.rules v.surface.sites e }
-surface_u s w v u e f = after_event s v f.surface e f.to (ready_v s w v u e f) f.products f.fired
+surface_u s w v u e f = applied_is s.network v.surface f.surface e f.to (ready_goes_on s v (ready_v s w v u e f)) f.products f.fired
 
 -- its surface is the one after the event
 pub fires_sites : (s : Scene) (w v u : Writer) (e : Event) → Fires s w v u e → u.surface.sites ≡ after s.network.lattice s.network.rules w.surface.sites e
@@ -130,12 +122,10 @@ fires_reached s w v u e f =
 pub fires_count : (s : Scene) (w v u : Writer) (e : Event) → Fires s w v u e → u.events ≡ w.events + 1
 fires_count s w v u e f = ap (λ (x : Writer). x.events) f.is ∙ number_w s w v u e f
 
-settled_u : (s : Scene) (w v u : Writer) (e : Event) (f : Fires s w v u e) → All IsSettled f.surface.sites
-settled_u s w v u e f =
+goes_on_u : (s : Scene) (w v u : Writer) (e : Event) (f : Fires s w v u e) → GoesOn s.network f.surface
+goes_on_u s w v u e f =
     let h : IsReady s v = ready_v s w v u e f in
-    let d = due_next s.network s.until v.surface.sites e (due_shown s w v e.time e f.shown f.due) in
-    subst (λ (x : SurfaceView). All IsSettled x.sites) (sym (surface_u s w v u e f))
-    (settled_after s.network v.surface.sites e d.0 (omega (arith, d.1, h.long)) h.settled)
+    goes_on_after s.network s.until v.surface f.surface e h.long (ready_goes_on s v h) (due_shown s w v e.time e f.shown f.due) (surface_u s w v u e f)
 
 -- and is ready for the next one
 pub fires_ready : (s : Scene) (w v u : Writer) (e : Event) → Fires s w v u e → IsReady s u
@@ -150,7 +140,7 @@ fires_ready s w v u e f =
       lattice = ap (λ (x : SurfaceView). x.lattice) same ∙ h.lattice;
       species_count = species_count ∙ h.species_count;
       species = subst (λ (k : ℕ). All (LeavesWithin k) s.network.rules) (sym species_count) h.species;
-      settled = settled_u s w v u e f;
+      settled = (goes_on_u s w v u e f).settled;
       tally = tally_u s w v u e f;
       within = omega (arith, n, below);
       ticks = h.ticks;

@@ -6,6 +6,7 @@ mod BytesRead
 mod Outcomes
 mod Batches
 mod Endings
+mod Applying
 mod Firing
 mod Sampling
 mod Showing
@@ -21,3 +22,5 @@ mod Stressing
 mod Compiling
 mod Crewing
 mod NetlistAnswers
+mod Leaving
+mod Reports

@@ -19,22 +19,35 @@ use Rattle.surface_top.specs.RunText.{Scene, Reached, events_of, shown, ticks_be
 use Rattle.surface_top.specs.Stops.{IsLimited, RunGains}
 use Rattle.surface_top.specs.Writing.{scene}
 
-abbrev by_limit : Bool → ℕ → List ℕ → Answer
-by_limit over limit text = cond over (EventLimit limit text) (Text text)
+-- a text that is cut to another where a limit was passed
+abbrev pub by_limit : Bool → ℕ → List ℕ → List ℕ → Answer
+by_limit over limit cut text = cond over (EventLimit limit cut) (Text text)
 
-ends_whole : (over : Bool) (limit : ℕ) (text : List ℕ) (old new : Option (List ℕ)) (f n : ℕ) → over ≡ false → Appends old new text → Answered (by_limit over limit text) ending.Done old new f n
-ends_whole false limit text old new f n h g = record { is_of = (text, refl); gains = g; write = search rules; read = search rules }
-ends_whole true limit text old new f n h g = search rules
+pub ends_whole : (over : Bool) (limit : ℕ) (cut text : List ℕ) (old new : Option (List ℕ)) (f n : ℕ) → over ≡ false → Appends old new text → Answered (by_limit over limit cut text) ending.Done old new f n
+ends_whole false limit cut text old new f n h g = record { is_of = (text, refl); gains = g; write = search rules; read = search rules }
+ends_whole true limit cut text old new f n h g = search rules
 
-ends_limited : (over : Bool) (limit : ℕ) (text : List ℕ) (old new : Option (List ℕ)) (f n : ℕ) → over ≡ true → Appends old new text → Answered (by_limit over limit text) (ending.EventLimit limit) old new f n
-ends_limited true limit text old new f n h g = record { is_of = (text, refl); gains = g; write = search rules; read = search rules }
-ends_limited false limit text old new f n h g = search rules
+pub ends_limited : (over : Bool) (limit : ℕ) (cut text : List ℕ) (old new : Option (List ℕ)) (f n : ℕ) → over ≡ true → Appends old new cut → Answered (by_limit over limit cut text) (ending.EventLimit limit) old new f n
+ends_limited true limit cut text old new f n h g = record { is_of = (cut, refl); gains = g; write = search rules; read = search rules }
+ends_limited false limit cut text old new f n h g = search rules
 
-ends_stopped : (over : Bool) (limit : ℕ) (text : List ℕ) (old new : Option (List ℕ)) (f n : ℕ) → text ≢ [] → AppendsPrefix old new text → Rose f n → Answered (by_limit over limit text) ending.WriteFault old new f n
+-- a write failed
+
+pub ends_failed : (over : Bool) (limit : ℕ) (cut text : List ℕ) (old new : Option (List ℕ)) (f n : ℕ) → over ≡ false → text ≢ [] → AppendsPrefix old new text → Rose f n → Answered (by_limit over limit cut text) ending.WriteFault old new f n
+ends_failed false limit cut text old new f n h some g w = record { is_of = some; gains = g; write = λ _. w; read = search rules }
+ends_failed true limit cut text old new f n h some g w = search rules
+
+ends_stopped : (over : Bool) (limit : ℕ) (text : List ℕ) (old new : Option (List ℕ)) (f n : ℕ) → text ≢ [] → AppendsPrefix old new text → Rose f n → Answered (by_limit over limit text text) ending.WriteFault old new f n
 ends_stopped false limit text old new f n some g w = record { is_of = some; gains = g; write = λ _. w; read = search rules }
 ends_stopped true limit text old new f n some g w = record { is_of = some; gains = g; write = λ _. w; read = search rules }
 
-ends_wanting : (over : Bool) (limit : ℕ) (text : List ℕ) (old new : Option (List ℕ)) (f n : ℕ) → AppendsPrefix old new text → Answered (by_limit over limit text) ending.Memory old new f n
+-- memory ran out
+
+pub ends_unwritten : (over : Bool) (limit : ℕ) (cut text : List ℕ) (old new : Option (List ℕ)) (f n : ℕ) → Appends old new [] → Answered (by_limit over limit cut text) ending.Memory old new f n
+ends_unwritten false limit cut text old new f n g = record { is_of = tt; gains = (0, g); write = search rules; read = search rules }
+ends_unwritten true limit cut text old new f n g = record { is_of = tt; gains = (0, g); write = search rules; read = search rules }
+
+ends_wanting : (over : Bool) (limit : ℕ) (text : List ℕ) (old new : Option (List ℕ)) (f n : ℕ) → AppendsPrefix old new text → Answered (by_limit over limit text text) ending.Memory old new f n
 ends_wanting false limit text old new f n g = record { is_of = tt; gains = g; write = search rules; read = search rules }
 ends_wanting true limit text old new f n g = record { is_of = tt; gains = g; write = search rules; read = search rules }
 
@@ -69,17 +82,17 @@ run_text_some : (s : Scene) (sites : List SiteState) → run_text s sites ≢ []
 run_text_some s sites = text_some (events_of s sites) s (start s sites)
 
 -- a run ends as its answer wants
-pub run_ends : {T : Type 0} (r : Result T Stop) (s : Scene) (sites : List SiteState) (old new : Option (List ℕ)) (f n : ℕ) → IsLimited r s sites → RunGains r (run_text s sites) old new → (IsErrOf r stop.Write → Rose f n) → Answered (by_limit (nat_lt s.limit (length (events_of s sites))) s.limit (run_text s sites)) (run_ending s.limit r) old new f n
-run_ends (Ok x) s sites old new f n h g w = ends_whole _ s.limit (run_text s sites) old new f n (grind (arith, nat_tests)) g
-run_ends (Err stop.Limit) s sites old new f n h g w = ends_limited _ s.limit (run_text s sites) old new f n (grind (arith, nat_tests)) g
+pub run_ends : {T : Type 0} (r : Result T Stop) (s : Scene) (sites : List SiteState) (old new : Option (List ℕ)) (f n : ℕ) → IsLimited r s sites → RunGains r (run_text s sites) old new → (IsErrOf r stop.Write → Rose f n) → Answered (by_limit (nat_lt s.limit (length (events_of s sites))) s.limit (run_text s sites) (run_text s sites)) (run_ending s.limit r) old new f n
+run_ends (Ok x) s sites old new f n h g w = ends_whole _ s.limit (run_text s sites) (run_text s sites) old new f n (grind (arith, nat_tests)) g
+run_ends (Err stop.Limit) s sites old new f n h g w = ends_limited _ s.limit (run_text s sites) (run_text s sites) old new f n (grind (arith, nat_tests)) g
 run_ends (Err stop.Write) s sites old new f n h g w = ends_stopped _ s.limit (run_text s sites) old new f n (run_text_some s sites) g (w refl)
 run_ends (Err stop.Memory) s sites old new f n h g w = ends_wanting _ s.limit (run_text s sites) old new f n g
 
 -- the same where the scene and the surface are known by other names
-pub run_answers : {T : Type 0} (r : Result T Stop) (s t : Scene) (sites first : List SiteState) (old new : Option (List ℕ)) (f n : ℕ) → s ≡ t → sites ≡ first → IsLimited r s sites → RunGains r (run_text s sites) old new → (IsErrOf r stop.Write → Rose f n) → Answered (by_limit (nat_lt t.limit (length (events_of t first))) t.limit (run_text t first)) (run_ending t.limit r) old new f n
+pub run_answers : {T : Type 0} (r : Result T Stop) (s t : Scene) (sites first : List SiteState) (old new : Option (List ℕ)) (f n : ℕ) → s ≡ t → sites ≡ first → IsLimited r s sites → RunGains r (run_text s sites) old new → (IsErrOf r stop.Write → Rose f n) → Answered (by_limit (nat_lt t.limit (length (events_of t first))) t.limit (run_text t first) (run_text t first)) (run_ending t.limit r) old new f n
 run_answers r s t sites first old new f n e d h g w =
-    subst (λ x. Answered (by_limit (nat_lt t.limit (length (events_of t x))) t.limit (run_text t x)) (run_ending t.limit r) old new f n) d
-    (subst (λ x. Answered (by_limit (nat_lt x.limit (length (events_of x sites))) x.limit (run_text x sites)) (run_ending x.limit r) old new f n) e
+    subst (λ x. Answered (by_limit (nat_lt t.limit (length (events_of t x))) t.limit (run_text t x) (run_text t x)) (run_ending t.limit r) old new f n) d
+    (subst (λ x. Answered (by_limit (nat_lt x.limit (length (events_of x sites))) x.limit (run_text x sites) (run_text x sites)) (run_ending x.limit r) old new f n) e
     (run_ends r s sites old new f n h g w))
 
 -- the scene that a manifest with these words makes

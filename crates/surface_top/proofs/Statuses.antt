@@ -112,3 +112,22 @@ write_fault ending.Memory h = search rules
 pub memory_message : (a : Answer) → codes "memory" ++ 10 ∷ [] ≡ message status.Memory a
 unfolding message
 memory_message a = refl
+
+not_done : (over : Bool) → limit_or_faulty over ≡ status.Done → ⊥
+not_done true h = search rules
+not_done false h = search rules
+
+-- an ending with status 0 is that of a call that is done
+pub done_is : (e : Ending) → status_of e ≡ status.Done → e ≡ ending.Done
+done_is ending.Done h = refl
+done_is (ending.WrongWord index) h = search rules
+done_is ending.TooLong h = search rules
+done_is (ending.BadManifest fault) h = absurd (not_done (is_over fault.kind) h)
+done_is (ending.BadCircuit fault) h = absurd (not_done (are_too_many fault.kind) h)
+done_is (ending.BadNetlist fault) h = absurd (not_done (has_too_many_nets fault.kind) h)
+done_is (ending.WrongInputs expected given) h = search rules
+done_is (ending.TooManySites sites) h = search rules
+done_is (ending.EventLimit limit) h = search rules
+done_is ending.ReadFault h = search rules
+done_is ending.WriteFault h = search rules
+done_is ending.Memory h = search rules

@@ -1,52 +1,108 @@
 -- A run to its end, of which the events are counted alone.
-use Rattle.std.proofs.Common.{◌≡◌, ℕ, ◌<◌, ◌≤◌, Bool, true, false, List, [], ◌∷◌, ◌++◌, length, Option, refl, sym, ap, ◌∙◌, arith, if◌then◌else◌, subst}
-use Rattle.std.specs.Prelude.{nat_lt}
+use Rattle.std.proofs.Common.{rules, ◌≡◌, ℕ, ◌+◌, ◌<◌, ◌≤◌, Bool, true, false, cond, List, [], ◌∷◌, ◌++◌, length, Option, None, refl, sym, ap, ◌∙◌, arith, subst}
+use Rattle.std.specs.Prelude.{Result, Ok, Err, All, nat_lt, IsErrOf, ◌≢◌}
+use Rattle.std.specs.Io.KnownBytes.{Appends}
 use Rattle.std.proofs.lemmas.Bool.Decides.{nat_tests}
+use Rattle.std.proofs.lemmas.List.{length-append}
 use Rattle.surf_kinds.specs.declared.event.Event.{Event}
-use Rattle.lattice.specs.Surface.{after_all, first_surface}
-use Rattle.one_engine.specs.State.{State, fired, fired_all, history_from}
+use Rattle.surf_kinds.specs.declared.site.SiteState.{SiteState}
+use Rattle.surf_outside.specs.Causes.{Rose}
+use Rattle.plan.specs.History.{due, history, AreNext}
+use Rattle.plan.proofs.LawLemmas.{history_next, history_none}
+use Rattle.warp_core.proofs.LawLemmas.{sites-append}
+use Rattle.crew.specs.Crews.{CrewView}
+use Rattle.surf_kinds.specs.declared.site.SpeciesId.{SpeciesId}
+use Rattle.lattice.specs.Surface.{first_surface}
+use Rattle.plan.specs.Network.{Network}
+use Rattle.plan.specs.Products.{LeavesWithin}
 use Rattle.surface_state.specs.SurfaceView.{SurfaceView}
-use Rattle.manifest_read.specs.declared.manifest.Manifest.{Manifest}
-use Rattle.trace_text.specs.Lines.{counts_text}
-use Rattle.surface_top.specs.RunText.{events_of}
-use Rattle.surface_top.specs.Answer.{Answer, EventLimit, Text, stress_scene, stress_answer}
-use Rattle.surface_top.specs.StressText.{first_state, last_time, stress_line, stress_text}
+use Rattle.one_engine.specs.Running.{IsSettled}
+use Rattle.one_engine.proofs.LawLemmas.{first_settled}
+use Rattle.surface_top.specs.declared.pages.Stop.{Stop}
+use Rattle.surface_top.specs.declared.pages.Stop.TheVariants as stop
+use Rattle.surface_top.specs.declared.stress.RunEnd.{RunEnd}
+use Rattle.surface_top.specs.Answer.{Answer, EventLimit, Text}
+use Rattle.surface_top.specs.Counting.{GoesOn, EndsAlike}
+use Rattle.surface_top.specs.Crewed.{IsAlong}
+use Rattle.surface_top.specs.Cuts.{surface_after}
+use Rattle.surface_top.specs.Ending.{Answered, run_ending}
+use Rattle.surface_top.specs.RunText.{Scene, Reached, events_of}
+use Rattle.surface_top.specs.Stops.{IsLimited, EndGains}
+use Rattle.surface_top.specs.StressText.{last_time, stress_line, stress_text}
+use Rattle.surface_top.proofs.RunEnds.{by_limit, ends_whole, ends_limited, ends_failed, ends_unwritten}
 
--- firings change the sites alone
-fired_surface : (s : State) (es : List Event) → (fired_all s es).surface ≡ record s.surface { sites = after_all s.network.lattice s.network.rules s.surface.sites es }
-fired_surface s [] = refl
-fired_surface s (e ∷ es) = fired_surface (fired s e) es
+last_append : (tick : ℕ) (xs ys : List Event) → last_time tick (xs ++ ys) ≡ last_time (last_time tick xs) ys
+last_append tick [] ys = refl
+last_append tick (x ∷ xs) ys = last_append x.time xs ys
 
-choose : (limit n : ℕ) (x y : Answer) (b : Bool) → nat_lt limit n ≡ b → (if nat_lt limit n then x else y) ≡ (if b then x else y)
-choose limit n x y b h = ap (λ c. if c then x else y) h
+rest_is : (s : Scene) (v u : List SiteState) (es : List Event) → AreNext s.network s.until v es → u ≡ surface_after s v es → events_of s v ≡ es ++ events_of s u
+rest_is s v u es next is = history_next s.network s.until v es next ∙ ap (λ (x : List SiteState). es ++ history s.network s.until x) (sym is)
 
--- with more events than the limit
-pub stress_many : (number : ℕ) (m : Manifest) (s : State) → s ≡ first_state m → 10000000 < length (history_from m.until s) → stress_answer number m ≡ EventLimit 10000000 []
-stress_many number m s is many =
-    let more : 10000000 < length (events_of (stress_scene m) (first_surface m.cells)) = subst (λ (x : State). 10000000 < length (history_from m.until x)) is many in
-    let test : nat_lt 10000000 (length (events_of (stress_scene m) (first_surface m.cells))) ≡ true = grind (arith, nat_tests) in
-    choose 10000000 _ _ _ true test
+-- the next events lead to a surface from which the run ends alike
+pub next_alike : (s : Scene) (v u : List SiteState) (a : RunEnd) (last : ℕ) (es : List Event) → AreNext s.network s.until v es → u ≡ surface_after s v es → last ≡ last_time a.last es
+    → EndsAlike s v a u (record { events = a.events + length es; last = last })
+next_alike s v u a last es next is time =
+    let rest = events_of s u in
+    let whole = rest_is s v u es next is in
+    record {
+      count = omega (arith, ap length whole, length-append es rest);
+      last = ap (last_time a.last) whole ∙ (last_append a.last es rest ∙ ap (λ t. last_time t rest) (sym time));
+      sites = ap (surface_after s v) whole ∙ (sites-append s.network v es rest ∙ ap (λ x. surface_after s x rest) (sym is));
+    }
 
--- the surface at the end has the manifest's species
-pub stress_species : (m : Manifest) (s t : State) → s ≡ first_state m → t ≡ fired_all s (history_from m.until s) → t.surface.species_count ≡ length m.names
-stress_species m s t is fires =
-    ap (λ (x : State). x.surface.species_count) fires
-    ∙ (ap (λ (x : SurfaceView). x.species_count) (fired_surface s (history_from m.until s))
-    ∙ ap (λ (x : State). x.surface.species_count) is)
+-- with more of them than the limit leaves, the run has more events than the limit
+pub next_many : (s : Scene) (v u : List SiteState) (events : ℕ) (es : List Event) → AreNext s.network s.until v es → u ≡ surface_after s v es → s.limit < events + length es → s.limit < events + length (events_of s v)
+next_many s v u events es next is more = omega (arith, more, ap length (rest_is s v u es next is), length-append es (events_of s u))
 
-abbrev text_from_state : ℕ → Manifest → State → List ℕ
-text_from_state number m s =
-    stress_line number (length (history_from m.until s)) (last_time 0 (history_from m.until s))
-    ++ counts_text m.names (after_all s.network.lattice s.network.rules s.surface.sites (history_from m.until s))
+pub alike_self : (s : Scene) (v : List SiteState) (a : RunEnd) → EndsAlike s v a v a
+alike_self s v a = record { count = refl; last = refl; sites = refl }
 
--- the text of the run
-pub stress_few : (number : ℕ) (m : Manifest) (s t : State) (text : List ℕ) → s ≡ first_state m → t ≡ fired_all s (history_from m.until s) → length (history_from m.until s) ≤ 10000000
-    → text ≡ stress_line number (length (history_from m.until s)) (last_time 0 (history_from m.until s)) ++ counts_text m.names t.surface.sites → stress_answer number m ≡ Text text
-stress_few number m s t text is fires few e =
-    let le : length (events_of (stress_scene m) (first_surface m.cells)) ≤ 10000000 = subst (λ (x : State). length (history_from m.until x) ≤ 10000000) is few in
-    let test : nat_lt 10000000 (length (events_of (stress_scene m) (first_surface m.cells))) ≡ false = grind (arith, nat_tests) in
-    let sites : t.surface.sites ≡ after_all s.network.lattice s.network.rules s.surface.sites (history_from m.until s) =
-    ap (λ (x : State). x.surface.sites) fires ∙ ap (λ (x : SurfaceView). x.sites) (fired_surface s (history_from m.until s)) in
-    let whole : text ≡ text_from_state number m s =
-    e ∙ ap (λ x. stress_line number (length (history_from m.until s)) (last_time 0 (history_from m.until s)) ++ counts_text m.names x) sites in
-    choose 10000000 _ _ _ false test ∙ ap Text (sym (whole ∙ ap (text_from_state number m) is))
+pub alike_more : (s : Scene) (v u w : List SiteState) (a b c : RunEnd) → EndsAlike s v a u b → EndsAlike s u b w c → EndsAlike s v a w c
+alike_more s v u w a b c p q = record { count = p.count ∙ q.count; last = p.last ∙ q.last; sites = p.sites ∙ q.sites }
+
+same_end : (n m : ℕ) (k l : ℕ) → n ≡ m → k ≡ l → (let e : RunEnd = record { events = n; last = k } in e) ≡ record { events = m; last = l }
+same_end n m k l p q = cc
+
+-- Where nothing more is due, the run has ended
+
+pub alike_end : (s : Scene) (v u : List SiteState) (b : RunEnd) → EndsAlike s v (record { events = 0; last = 0 }) u b → due s.network s.until u ≡ None → b ≡ record { events = length (events_of s v); last = last_time 0 (events_of s v) }
+alike_end s v u b h none =
+    let left : events_of s u ≡ [] = history_none s.network s.until u none in
+    same_end _ _ _ _ (let e : b.events ≡ length (events_of s v) = omega (arith, h.count, ap length left) in e) (sym (h.last ∙ ap (last_time b.last) left))
+
+pub alike_few : (s : Scene) (v u : List SiteState) (b : RunEnd) → EndsAlike s v (record { events = 0; last = 0 }) u b → due s.network s.until u ≡ None → b.events ≤ s.limit → length (events_of s v) ≤ s.limit
+alike_few s v u b h none few = omega (arith, h.count, ap length (history_none s.network s.until u none), few)
+
+pub alike_sites : (s : Scene) (v u : List SiteState) (a b : RunEnd) → EndsAlike s v a u b → due s.network s.until u ≡ None → u ≡ surface_after s v (events_of s v)
+alike_sites s v u a b h none = sym (h.sites ∙ ap (surface_after s u) (history_none s.network s.until u none))
+
+-- a run without sampling ticks has come as far
+pub along_counted : (s : Scene) (c : CrewView) (r : Reached) → IsAlong s c r → IsAlong s c (record { sites = r.sites; events = r.events; ticks = [] })
+along_counted s c r a = record { network = a.network; until = a.until; reached = a.reached; count = a.count }
+
+-- a first surface goes on
+pub first_goes_on : (n : Network) (v : SurfaceView) (cells : List SpeciesId) → v.lattice ≡ n.lattice → All (LeavesWithin v.species_count) n.rules → v.sites ≡ first_surface cells → GoesOn n v
+first_goes_on n v cells lattice species is = record { lattice = lattice; species = species; settled = subst (All IsSettled) (sym is) (first_settled cells) }
+
+-- The answer
+
+stress_some : (number : ℕ) (s : Scene) (sites : List SiteState) → stress_text number s sites ≢ []
+unfolding stress_line
+stress_some number s sites = λ h. cc
+
+stress_ends : {T : Type 0} (r : Result T Stop) (number : ℕ) (s : Scene) (sites : List SiteState) (old new : Option (List ℕ)) (f n : ℕ) → IsLimited r s sites → EndGains r (stress_text number s sites) old new → (IsErrOf r stop.Write → Rose f n)
+    → (IsErrOf r stop.Write → length (events_of s sites) ≤ s.limit) → Answered (by_limit (nat_lt s.limit (length (events_of s sites))) s.limit [] (stress_text number s sites)) (run_ending s.limit r) old new f n
+stress_ends (Ok x) number s sites old new f n h g w few = ends_whole _ s.limit [] (stress_text number s sites) old new f n (grind (arith, nat_tests)) g
+stress_ends (Err stop.Limit) number s sites old new f n h g w few = ends_limited _ s.limit [] (stress_text number s sites) old new f n (grind (arith, nat_tests)) g
+stress_ends (Err stop.Write) number s sites old new f n h g w few =
+    let le : length (events_of s sites) ≤ s.limit = few refl in
+    ends_failed _ s.limit [] (stress_text number s sites) old new f n (grind (arith, nat_tests)) (stress_some number s sites) g (w refl)
+stress_ends (Err stop.Memory) number s sites old new f n h g w few = ends_unwritten _ s.limit [] (stress_text number s sites) old new f n g
+
+-- the same where the scene and the surface are known by other names
+pub stress_answers : {T : Type 0} (r : Result T Stop) (number : ℕ) (s t : Scene) (sites first : List SiteState) (old new : Option (List ℕ)) (f n : ℕ) → s ≡ t → sites ≡ first → IsLimited r s sites → EndGains r (stress_text number s sites) old new → (IsErrOf r stop.Write → Rose f n)
+    → (IsErrOf r stop.Write → length (events_of s sites) ≤ s.limit) → Answered (by_limit (nat_lt t.limit (length (events_of t first))) t.limit [] (stress_text number t first)) (run_ending t.limit r) old new f n
+stress_answers r number s t sites first old new f n e d h g w few =
+    subst (λ x. Answered (by_limit (nat_lt t.limit (length (events_of t x))) t.limit [] (stress_text number t x)) (run_ending t.limit r) old new f n) d
+    (subst (λ (x : Scene). Answered (by_limit (nat_lt x.limit (length (events_of x sites))) x.limit [] (stress_text number x sites)) (run_ending x.limit r) old new f n) e
+    (stress_ends r number s sites old new f n h g w few))

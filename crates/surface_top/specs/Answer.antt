@@ -123,7 +123,7 @@ inputs_in index words = option_map_or (λ i. slice_index_or words i []) index []
 abbrev pub answer_within : Words → List (List ℕ) → List ℕ → Answer
 answer_within Check words bytes = by_manifest (λ m. Text (check_text m)) (manifest_of bytes)
 answer_within Print words bytes = by_manifest (λ m. Text (canonical_text m)) (manifest_of bytes)
-answer_within (Run workers seed until samples limit) words bytes = by_manifest (λ m. run_answer (scene_of seed until samples limit m) m) (manifest_of bytes)
+answer_within (Run workers seed until samples limit quota slots report) words bytes = by_manifest (λ m. run_answer (scene_of seed until samples limit m) m) (manifest_of bytes)
 answer_within (Compile inputs) words bytes = by_circuit (compile_answer (inputs_in inputs words)) (circuit_in bytes)
 answer_within (Value inputs) words bytes = by_circuit (value_answer (inputs_in inputs words)) (circuit_in bytes)
 answer_within (Gen number) words bytes = gen_answer number

@@ -13,9 +13,11 @@ use Rattle.surface_words.specs.declared.words.Words.TheVariants.{Run}
 use Rattle.surface_words.specs.Reading.{reading}
 use Rattle.surface_top.specs.Answer.{Text, specified_answer}
 
--- the words say `run --limit 10000000` with these samples and no duration, whatever the seed and the workers are
+-- the words say `run --limit 10000000` with these samples and no duration, whatever the seed, the workers and what these are
+-- given may be
 abbrev pub IsLongRun : List (List ℕ) → ℕ → Type 0
-IsLongRun words samples = (workers : ℕ) × (seed : Option ℕ) × (reading Surface words ≡ Some (Run workers seed None samples 10000000))
+IsLongRun words samples =
+    (workers : ℕ) × (seed : Option ℕ) × (quota : ℕ) × (slots : ℕ) × (report : Bool) × (reading Surface words ≡ Some (Run workers seed None samples 10000000 quota slots report))
 
 -- the text ends so
 abbrev pub EndsWithText : List ℕ → List ℕ → Type 0

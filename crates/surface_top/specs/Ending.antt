@@ -68,13 +68,15 @@ pub record Answered (a : Answer) (e : Ending) (old new : Option (List ℕ)) (fau
   pub write : e ≡ ending.WriteFault → Rose faults now
   pub read : e ≡ ending.ReadFault → ⊥
 
--- The ending of a call, by the answer that each list of bytes has: there are bytes, those of the source where it tells
--- them, of whose answer it is the ending, and the sink gained what that answer says.
-pub record EndsAs (answer : List ℕ → Answer) (e : Ending) (unread : Option (List ℕ)) (old new : Option (List ℕ)) : Type 0 where
+-- The ending of a call, by the answer that each list of bytes has and by what else is said of them: there are bytes, those
+-- of the source where it tells them, of whose answer it is the ending, the sink gained what that answer says, and the rest
+-- is so of these bytes.
+pub record EndsAs (answer : List ℕ → Answer) (Besides : List ℕ → Type 0) (e : Ending) (unread : Option (List ℕ)) (old new : Option (List ℕ)) : Type 0 where
   pub bytes : List ℕ
   pub agrees : IfSome unread (λ all. bytes ≡ all)
   pub is_of : IsEndingOf e (answer bytes)
   pub gains : OutGains (status_of e) (answer bytes) old new
+  pub besides : Besides bytes
 
 -- wrong words are answered; right ones never
 abbrev pub IsWordsAnswer : Ending → Option Words → Type 0

@@ -13,3 +13,6 @@ pub mod CircuitRuns
 pub mod Cuts
 pub mod Crewed
 pub mod NetlistTexts
+pub mod Counting
+pub mod Kept
+pub mod Reporting

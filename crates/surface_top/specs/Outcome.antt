@@ -162,15 +162,17 @@ abbrev pub HasWriteCause : Answer → List ℕ → Outside → Outside → Type 
 HasWriteCause a lines old new =
     (HasText a × Rose old.out.faults new.out.faults) ⊎ (HasLines a lines × Rose old.notes.faults new.notes.faults)
 
--- The outcome of a call, by the answer that each list of bytes has, and the lines that go to the notes with status 0:
--- there are bytes, those of the source where it tells them, and what the call leaves is what their answer says.
-pub record IsOutcome (answer : List ℕ → Answer) (lines : List ℕ) (result : Status) (old new : Outside) : Type 0 where
+-- The outcome of a call, by the answer that each list of bytes has, by what else is said of them, and by the lines that go
+-- to the notes with status 0: there are bytes, those of the source where it tells them, what the call leaves outside is
+-- what their answer says, and the rest is so of these bytes.
+pub record IsOutcome (answer : List ℕ → Answer) (Besides : List ℕ → Type 0) (lines : List ℕ) (result : Status) (old new : Outside) : Type 0 where
   pub bytes : List ℕ
   pub agrees : IfSome old.source.unread (λ unread. bytes ≡ unread)
   pub is_of : IsStatusOf result (answer bytes)
   pub out_gains : OutGains result (answer bytes) old.out.written new.out.written
   pub notes_gain : NotesGain (Rose old.notes.faults new.notes.faults) result (answer bytes) lines old.notes.written new.notes.written
   pub cause : result ≡ status.WriteFault → HasWriteCause (answer bytes) lines old new
+  pub besides : Besides bytes
   -- where no object had a fault, the status is the answer's own, or memory ran out
   pub complete : (Rose old.source.faults new.source.faults → ⊥) → (Rose old.out.faults new.out.faults → ⊥)
       → (HasLines (answer bytes) lines → Rose old.notes.faults new.notes.faults → ⊥)

@@ -2,9 +2,6 @@
 use Rattle.std.specs.Prelude.{ℕ, List, [], ◌∷◌, ◌++◌, length, decimal, codes}
 use Rattle.surf_kinds.specs.declared.event.Event.{Event}
 use Rattle.surf_kinds.specs.declared.site.SiteState.{SiteState}
-use Rattle.lattice.specs.Surface.{first_surface}
-use Rattle.one_engine.specs.State.{State}
-use Rattle.manifest_read.specs.declared.manifest.Manifest.{Manifest}
 use Rattle.trace_text.specs.Lines.{counts_text}
 use Rattle.surface_top.specs.Cuts.{surface_after}
 use Rattle.surface_top.specs.RunText.{Scene, events_of}
@@ -22,10 +19,3 @@ stress_line number events tick = codes "stress " ++ decimal number ++ codes " ev
 abbrev pub stress_text : ℕ → Scene → List SiteState → List ℕ
 stress_text number s sites =
     stress_line number (length (events_of s sites)) (last_time 0 (events_of s sites)) ++ counts_text s.names (surface_after s sites (events_of s sites))
-
--- the state in which a run of a manifest begins
-abbrev pub first_state : Manifest → State
-first_state m = record {
-  network = record { lattice = m.lattice; rules = m.rules; seed = m.seed };
-  surface = record { lattice = m.lattice; species_count = length m.names; sites = first_surface m.cells };
-}

@@ -1,6 +1,6 @@
 //! The top call: from words and a source to what is written and a status.
 
-ghost use Rattle.std.specs.Prelude.{◌≡◌, ◌≤◌, ◌⊎◌, true, false, [], None, Ok, map, length, string_bytes, IfOk, IfErr};
+ghost use Rattle.std.specs.Prelude.{◌≡◌, ◌≤◌, ◌⊎◌, true, false, None, Ok, map, length, string_bytes, IfOk, IfErr, IfSome};
 ghost use Rattle.std.specs.Io.KnownBytes.{IsAtEnd};
 ghost use Rattle.surf_outside.specs.Causes.{Rose};
 ghost use Rattle.manifest_read.specs.Manifest.{manifest_of, IsValid};
@@ -10,16 +10,20 @@ ghost use Rattle.surface_words.specs.declared.commands.Program.TheVariants.{Surf
 ghost use Rattle.surface_words.specs.Reading.{reading, reads, IsInRange};
 ghost use Rattle.surface_top.specs.Answer.{answer_within, answer_to, specified_answer, reads_source, inputs_in, by_manifest, by_circuit};
 ghost use Rattle.surface_top.specs.Ending.{manifest_answer, circuit_answer, status_of, IsWordsAnswer, IsNoManifest, IsNoCircuit, IsAccepted, IsWithin, Answered, EndsAs};
-ghost use Rattle.surface_top.specs.Outcome.{own_status, Gains, IsOutcome, source_view, sink_view, outside};
+ghost use Rattle.surface_top.specs.Kept.{run_by, run_read, run_within, run_to, specified_run, Leaves};
+ghost use Rattle.surface_top.specs.Reporting.{Told, line_in, wants_report, IsRightReport, IsAnsweredCall};
+ghost use Rattle.surface_top.specs.Outcome.{own_status, Gains, source_view, sink_view, outside};
 
 use crate::answers::{check, compile, generate, print, value};
 use crate::ending::Ending;
 use crate::ensembles::{EnsembleOptions, ensemble_manifest};
 use crate::message::message_of;
 use crate::netlists::answer_netlist;
+use crate::report::put_report;
 use crate::run::{RunOptions, run_manifest};
 use crate::stress::stress;
 use circuit_text::{Circuit, CircuitError, read_circuit};
+use crew::Crew;
 use manifest_read::{Manifest, ManifestError, read_manifest};
 use std::alloc::Global;
 use std::thread::Threads;
@@ -90,20 +94,22 @@ fn ensemble_job(workers: u64, seeds: u64, first: u64, until: Option<u64>, limit:
     })
 }
 
-/// A run with these options. A region adds at most 256 entries in a turn, and a ring holds 256 messages.
+/// A run with these options.
 fn run_job(
     workers: u64,
     seed: Option<u64>,
     until: Option<u64>,
     samples: u64,
     limit: u64,
+    quota: u64,
+    slots: u64,
 ) -> ManifestJob
-    ensures { result ≡ ManifestJob.Run (record { workers = workers; quota = 256; slots = 256; seed = seed; until = until; samples = samples; limit = limit }) }
+    ensures { result ≡ ManifestJob.Run (record { workers = workers; quota = quota; slots = slots; seed = seed; until = until; samples = samples; limit = limit }) }
 {
     ManifestJob::Run(RunOptions {
         workers,
-        quota: 256,
-        slots: 256,
+        quota,
+        slots,
         seed,
         until,
         samples,
@@ -111,18 +117,21 @@ fn run_job(
     })
 }
 
-/// Reads a manifest and writes what the job makes of it.
+/// Reads a manifest and writes what the job makes of it. A run leaves its crew in `kept`.
 fn answer_manifest<R: Threads + Sync, O: Sink, G: Gate>(
     rt: &R,
     gate: &G,
     alloc: Global,
     text: &[u8],
     job: ManifestJob,
+    kept: &mut Option<Crew>,
     out: &mut O,
 ) -> Ending
     requires size { length text.now ≤ 67108864 }
     requires within { IsWithin job }
-    ensures { Answered (by_manifest (manifest_answer job) (manifest_of text.now)) result (O.written out.old) (O.written out.new) (O.faults out.old) (O.faults out.new) }
+    requires none { kept.old ≡ None }
+    ensures kept { Leaves result (run_read (run_by job) (manifest_of text.now)) kept.new }
+    ensures answered { Answered (by_manifest (manifest_answer job) (manifest_of text.now)) result (O.written out.old) (O.written out.new) (O.faults out.old) (O.faults out.new) }
 {
     let manifest = match manifest(alloc, text) {
         Ok(manifest) => manifest,
@@ -131,7 +140,9 @@ fn answer_manifest<R: Threads + Sync, O: Sink, G: Gate>(
     match job {
         ManifestJob::Check => check(alloc, &manifest, out),
         ManifestJob::Print => print(alloc, &manifest, out),
-        ManifestJob::Run(options) => run_manifest(rt, gate, alloc, &manifest, options, out),
+        ManifestJob::Run(options) => {
+            run_manifest(rt, gate, alloc, &manifest, options, kept, out)
+        }
         ManifestJob::Ensemble(options) => ensemble_manifest(rt, alloc, &manifest, options, out),
     }
 }
@@ -173,24 +184,30 @@ fn answer_text<R: Threads + Sync, O: Sink, G: Gate>(
     words: &[String],
     command: Words,
     text: &[u8],
+    kept: &mut Option<Crew>,
     out: &mut O,
 ) -> Ending
     requires size { length text.now ≤ 67108864 }
     requires within { IsInRange (length words.now) command }
-    ensures { Answered (answer_within command (map string_bytes words.now) text.now) result (O.written out.old) (O.written out.new) (O.faults out.old) (O.faults out.new) }
+    requires none { kept.old ≡ None }
+    ensures kept { Leaves result (run_within command text.now) kept.new }
+    ensures answered { Answered (answer_within command (map string_bytes words.now) text.now) result (O.written out.old) (O.written out.new) (O.faults out.old) (O.faults out.new) }
 {
     match command {
-        Words::Check => answer_manifest(rt, gate, alloc, text, ManifestJob::Check, out),
-        Words::Print => answer_manifest(rt, gate, alloc, text, ManifestJob::Print, out),
+        Words::Check => { answer_manifest(rt, gate, alloc, text, ManifestJob::Check, kept, out) },
+        Words::Print => { answer_manifest(rt, gate, alloc, text, ManifestJob::Print, kept, out) },
         Words::Run {
             workers,
             seed,
             until,
             samples,
             limit,
+            quota,
+            slots,
+            ..
         } => {
-            let job = run_job(workers, seed, until, samples, limit);
-            answer_manifest(rt, gate, alloc, text, job, out)
+            let job = run_job(workers, seed, until, samples, limit, quota, slots);
+            answer_manifest(rt, gate, alloc, text, job, kept, out)
         }
         Words::Ensemble {
             workers,
@@ -200,7 +217,7 @@ fn answer_text<R: Threads + Sync, O: Sink, G: Gate>(
             limit,
         } => {
             let job = ensemble_job(workers, seeds, first, until, limit);
-            answer_manifest(rt, gate, alloc, text, job, out)
+            answer_manifest(rt, gate, alloc, text, job, kept, out)
         }
         Words::Compile { inputs: index } => {
             answer_circuit(alloc, text, CircuitJob::Compile, inputs(words, index), out)
@@ -209,7 +226,7 @@ fn answer_text<R: Threads + Sync, O: Sink, G: Gate>(
             answer_circuit(alloc, text, CircuitJob::Value, inputs(words, index), out)
         }
         Words::Gen { number } => generate(alloc, number, out),
-        Words::Stress { number, .. } => stress(alloc, number, out),
+        Words::Stress { workers, number } => { stress(rt, gate, alloc, workers, number, kept, out) }
         Words::Bench => answer_netlist(alloc, text, out),
     }
 }
@@ -221,12 +238,14 @@ fn answer_source<R: Threads + Sync, S: Source, O: Sink, G: Gate>(
     alloc: Global,
     words: &[String],
     command: Words,
+    kept: &mut Option<Crew>,
     source: &mut S,
     out: &mut O,
 ) -> Ending
     requires within { IsInRange (length words.now) command }
     requires reads { reads command ≡ true }
-    ensures ends { EndsAs (answer_to (map string_bytes words.now) command) result (S.unread source.old) (O.written out.old) (O.written out.new) }
+    requires none { kept.old ≡ None }
+    ensures ends { EndsAs (answer_to (map string_bytes words.now) command) (λ bytes. Leaves result (run_to command bytes) kept.new) result (S.unread source.old) (O.written out.old) (O.written out.new) }
     ensures accepted { IsAccepted result }
     ensures end { result ≡ Ending.Done → IsAtEnd (S.unread source.new) }
     ensures read { result ≡ Ending.ReadFault → Rose (S.faults source.old) (S.faults source.new) }
@@ -238,7 +257,7 @@ fn answer_source<R: Threads + Sync, S: Source, O: Sink, G: Gate>(
         Err(SlurpError::TooLong) => return Ending::TooLong,
         Err(SlurpError::Memory) => return Ending::Memory,
     };
-    answer_text(rt, gate, alloc, words, command, &text, out)
+    answer_text(rt, gate, alloc, words, command, &text, kept, out)
 }
 
 /// Does all that the words ask for but the message. Wrong words come first, and then nothing is read or written.
@@ -247,10 +266,12 @@ fn work<R: Threads + Sync, S: Source, O: Sink, G: Gate>(
     gate: &G,
     alloc: Global,
     words: &[String],
+    kept: &mut Option<Crew>,
     source: &mut S,
     out: &mut O,
 ) -> Ending
-    ensures ends { EndsAs (specified_answer Surface (map string_bytes words.now)) result (S.unread source.old) (O.written out.old) (O.written out.new) }
+    requires none { kept.old ≡ None }
+    ensures ends { EndsAs (specified_answer Surface (map string_bytes words.now)) (λ bytes. Leaves result (specified_run Surface (map string_bytes words.now) bytes) kept.new) result (S.unread source.old) (O.written out.old) (O.written out.new) }
     ensures words { IsWordsAnswer result (reading Surface (map string_bytes words.now)) }
     ensures untouched { reads_source Surface (map string_bytes words.now) ≡ false → source.new ≡ source.old }
     ensures unwritten { reading Surface (map string_bytes words.now) ≡ None → out.new ≡ out.old }
@@ -261,18 +282,61 @@ fn work<R: Threads + Sync, S: Source, O: Sink, G: Gate>(
 {
     match Words::read(words, Program::Surface) {
         Ok(command) if command.reads() => {
-            answer_source(rt, gate, alloc, words, command, source, out)
+            answer_source(rt, gate, alloc, words, command, kept, source, out)
         }
-        Ok(command) => answer_text(rt, gate, alloc, words, command, &[], out),
+        Ok(command) => answer_text(rt, gate, alloc, words, command, &[], kept, out),
         Err(index) => Ending::WrongWord(index as u64),
     }
 }
 
 /// Writes a line. A fault of the notes changes no status, so nothing is made of it.
 fn put_message<N: Sink>(notes: &mut N, line: &[u8])
-    ensures { Gains (Rose (N.faults notes.old) (N.faults notes.new)) line.now (N.written notes.old) (N.written notes.new) }
+    ensures gains { Gains (Rose (N.faults notes.old) (N.faults notes.new)) line.now (N.written notes.old) (N.written notes.new) }
+    ensures later { N.faults notes.old ≤ N.faults notes.new }
 {
     let _ = put_all(notes, line);
+}
+
+/// Whether the words ask for a report.
+fn wants_report(words: &[String]) -> bool
+    ensures { result ≡ wants_report Surface (map string_bytes words.now) }
+{
+    matches!(
+        Words::read(words, Program::Surface),
+        Ok(Words::Run { report: true, .. })
+    )
+}
+
+/// Writes the report line of the crew that a run has left, where the words ask for it and the call is done. Where that
+/// fails no crew is left. Gives how the call ends then.
+fn report<N: Sink>(
+    alloc: Global,
+    words: &[String],
+    ending: Ending,
+    kept: &mut Option<Crew>,
+    notes: &mut N,
+) -> Ending
+    ensures told { Told (line_in (wants_report Surface (map string_bytes words.now)) kept.old) ending result (sink_view (N.written notes.old) (N.faults notes.old)) (sink_view (N.written notes.new) (N.faults notes.new)) }
+    ensures right { ending ≡ Ending.Done → wants_report Surface (map string_bytes words.now) ≡ true → IfSome kept.old IsRightReport }
+    ensures same { result ≡ ending → kept.new ≡ kept.old }
+    ensures none { (result ≡ ending → ⊥) → kept.new ≡ None }
+{
+    let Ending::Done = ending else {
+        return ending;
+    };
+    if !wants_report(words) {
+        return ending;
+    }
+    let Some(crew) = kept.as_ref() else {
+        return ending;
+    };
+    match put_report(alloc, crew.report(), notes) {
+        Ending::Done => Ending::Done,
+        failed => {
+            *kept = None;
+            failed
+        }
+    }
 }
 
 /// The program `surface`: does what the words say with the text that the source holds, and writes to `out`.
@@ -292,20 +356,27 @@ fn put_message<N: Sink>(notes: &mut N, line: &[u8])
 /// - `Memory`: want of memory, which may come in place of every other status. A prefix of the text was written.
 ///
 /// With every other status nothing was written to `out`. With every status but `Done` one line is written to `notes`; a
-/// fault of `notes` may cut it short, and leaves the status as it is.
+/// fault of `notes` in it may cut it short, and leaves the status as it is.
 ///
-/// What names the answer is said of some bytes, which are those of the source where it tells them. Today no command has
-/// lines that go to `notes` with `Done`.
+/// What `kept` held before is dropped. With `Done`, `run` and `stress` leave there their crew, which has finished; where the event
+/// limit was met, their crew, whose horizon is above the key of the event past the limit. In every other case it is None.
+///
+/// With `run --report yes` and `Done` one line goes to `notes`, the report of that crew: as many regions as workers, or as
+/// rows if there are fewer; the events of the history as committed; at most one round more; and what was fired was
+/// committed or cancelled. A fault of `notes` in that line gives `WriteFault`.
+///
+/// What names the answer, the crew and the report is said of some bytes, which are those of the source where it tells them.
 pub fn surface_main<R: Threads + Sync, S: Source, O: Sink, N: Sink, G: Gate>(
     rt: &R,
     alloc: Global,
     words: &[String],
+    kept: &mut Option<Crew>,
     source: &mut S,
     out: &mut O,
     notes: &mut N,
     gate: &G,
 ) -> Status
-    ensures answer { IsOutcome (specified_answer Surface (map string_bytes words.now)) [] result
+    ensures answer { IsAnsweredCall Surface (map string_bytes words.now) result kept.new
         (outside (source_view (S.unread source.old) (S.faults source.old)) (sink_view (O.written out.old) (O.faults out.old)) (sink_view (N.written notes.old) (N.faults notes.old)))
         (outside (source_view (S.unread source.new) (S.faults source.new)) (sink_view (O.written out.new) (O.faults out.new)) (sink_view (N.written notes.new) (N.faults notes.new))) }
 
@@ -318,15 +389,18 @@ pub fn surface_main<R: Threads + Sync, S: Source, O: Sink, N: Sink, G: Gate>(
     ensures end { result ≡ Status.Done → reads_source Surface (map string_bytes words.now) ≡ true → IsAtEnd (S.unread source.new) }
     ensures reads { result ≡ Status.ReadFault → reads_source Surface (map string_bytes words.now) ≡ true }
     ensures read { result ≡ Status.ReadFault → Rose (S.faults source.old) (S.faults source.new) }
-    ensures write { result ≡ Status.WriteFault → Rose (O.faults out.old) (O.faults out.new) }
+    ensures write { result ≡ Status.WriteFault → Rose (O.faults out.old) (O.faults out.new) ⊎ Rose (N.faults notes.old) (N.faults notes.new) }
 {
-    let ending = work(rt, gate, alloc, words, source, out);
+    *kept = None;
+    let ending = work(rt, gate, alloc, words, kept, source, out);
+    let ending = report(alloc, words, ending, kept, notes);
     match message_of(alloc, ending) {
         Ok(line) => {
             put_message(notes, line.as_bytes());
             ending.status()
         }
         Err(_) => {
+            *kept = None;
             put_message(notes, b"memory\n");
             Status::Memory
         }

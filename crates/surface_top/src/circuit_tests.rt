@@ -127,10 +127,12 @@ pub(crate) fn refused<R: Threads + Sync + Abort>(
     let mut source = MemSource::new(alloc, text.as_bytes(), 65_536, &[])?;
     let mut out = MemSink::new(alloc, 100, 100, &[])?;
     let mut notes = MemSink::new(alloc, 100, 100, &[])?;
+    let mut kept = None;
     let status = crate::surface_main(
         rt,
         alloc,
         words.as_slice(),
+        &mut kept,
         &mut source,
         &mut out,
         &mut notes,

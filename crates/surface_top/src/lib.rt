@@ -4,11 +4,10 @@
 //! sizes, its canonical text, its run text (`specs/RunText.antt`) or what its runs with many seeds come to, of a circuit
 //! the values of its outputs or the manifest that it is compiled to, of a netlist its circuit text, of a number the
 //! generated manifest or how a run of it ends. A run goes by a crew, and what each of its rounds hands out goes to the one
-//! writer of run texts before the next round begins. A run of `stress` fires the next event of the surface, one after the
-//! other.
+//! writer of run texts before the next round begins. What a run of `stress` hands out is counted alone.
 //!
 //! The crate stands on the readers of words, manifests, circuits and netlists, on the compiler of circuits and the
-//! generator of manifests, on the crew, on the engine and the ensemble, and on the writers of texts.
+//! generator of manifests, on the crew and the ensemble, and on the writers of texts.
 #![tactic(auto)]
 
 mod answers;
@@ -20,6 +19,7 @@ pub mod laws;
 mod message;
 mod netlists;
 mod pages;
+mod report;
 mod rounds;
 mod run;
 mod stress;

@@ -1,6 +1,6 @@
 //! What `run` writes of a manifest: a run of its plan on its first surface, by a crew.
 
-ghost use Rattle.std.specs.Prelude.{◌≡◌, ◌^◌, ◌≤◌, List, length, All, OnOk, IfOk, IsErrOf};
+ghost use Rattle.std.specs.Prelude.{◌≡◌, ◌^◌, ◌≤◌, List, length, All, None, OnOk, IfOk, IsErrOf, unwrap_or};
 ghost use Rattle.surf_kinds.specs.declared.site.SpeciesId.{SpeciesId};
 ghost use Rattle.surf_kinds.specs.Keys.{origin};
 ghost use Rattle.surf_outside.specs.Causes.{Rose};
@@ -13,6 +13,7 @@ ghost use Rattle.manifest_read.specs.Sound.{IsSound};
 ghost use Rattle.surface_top.specs.Answer.{run_answer, scene_of};
 ghost use Rattle.surface_top.specs.Crewed.{IsCrewFor, IsPastLimit, IsSameCrew, first_of, network_of};
 ghost use Rattle.surface_top.specs.Ending.{Answered, HasBounds, run_ending};
+ghost use Rattle.surface_top.specs.Kept.{IsCrewOf, left_by, RunLeaves};
 ghost use Rattle.surface_top.specs.RunText.{run_text};
 ghost use Rattle.surface_top.specs.Stops.{IsLimited, RunGains};
 ghost use Rattle.surface_top.specs.Writing.{scene_of as scene_of_task};
@@ -109,7 +110,7 @@ pub(crate) fn write_run<R: Threads + Sync, O: Sink, G: Gate>(
 }
 
 /// How the call ends after a run.
-fn ending_of(run: Result<(), Stop>, limit: u64) -> Ending
+pub(crate) fn ending_of(run: Result<(), Stop>, limit: u64) -> Ending
     ensures { result ≡ run_ending limit run }
 {
     match run {
@@ -117,6 +118,16 @@ fn ending_of(run: Result<(), Stop>, limit: u64) -> Ending
         Err(Stop::Limit) => Ending::EventLimit(limit),
         Err(Stop::Write) => Ending::WriteFault,
         Err(Stop::Memory) => Ending::Memory,
+    }
+}
+
+/// The crew of a run that went to its end or met the limit.
+pub(crate) fn left_by(ending: Ending, crew: Crew) -> Option<Crew>
+    ensures { result ≡ left_by ending crew }
+{
+    match ending {
+        Ending::Done | Ending::EventLimit(_) => Some(crew),
+        _ => None,
     }
 }
 
@@ -157,44 +168,67 @@ fn crew_for(
     crew_of(alloc, plan, surface, until, options)
 }
 
-/// Runs a manifest and writes its run text. A seed and a duration that the words give stand in place of its own.
+/// How long a run of a manifest is, and what is shown of it. A duration that the options have stands in place of its own.
+pub(crate) fn span_of(manifest: &Manifest, options: RunOptions) -> Span
+    ensures { result ≡ record { until = unwrap_or options.until manifest.now.until; samples = options.samples; limit = options.limit } }
+{
+    Span {
+        until: options.until.unwrap_or(manifest.until),
+        samples: options.samples,
+        limit: options.limit,
+    }
+}
+
+/// A run of a manifest at its start: its plan, its first surface, and its crew. A seed and a duration that the options have
+/// stand in place of its own.
+pub(crate) fn started(
+    alloc: Global,
+    manifest: &Manifest,
+    options: RunOptions,
+) -> Result<(Plan, Surface, Crew), NoMemory>
+    requires sound { IsSound manifest.now }
+    requires bounds { HasBounds options }
+    ensures plan { IfOk result (λ run. run.0 ≡ network_of (unwrap_or options.seed manifest.now.seed) manifest.now) }
+    ensures surface { IfOk result (λ run. run.1 ≡ first_of manifest.now) }
+    ensures crew { IfOk result (λ run. IsCrewOf (record { manifest = manifest.now; options = options }) run.2) }
+    ensures horizon { IfOk result (λ run. run.2.horizon ≡ origin) }
+{
+    let seed = options.seed.unwrap_or(manifest.seed);
+    let until = options.until.unwrap_or(manifest.until);
+    let plan = plan_of(alloc, manifest, seed)?;
+    let surface = surface_of(alloc, manifest)?;
+    let crew = crew_for(alloc, manifest, seed, &surface, until, options)?;
+    Ok((plan, surface, crew))
+}
+
+/// Runs a manifest and writes its run text. A seed and a duration that the words give stand in place of its own. The crew
+/// of a run that went to its end or met the limit is left in `kept`.
 pub(crate) fn run_manifest<R: Threads + Sync, O: Sink, G: Gate>(
     rt: &R,
     gate: &G,
     alloc: Global,
     manifest: &Manifest,
     options: RunOptions,
+    kept: &mut Option<Crew>,
     out: &mut O,
 ) -> Ending
     requires sound { IsSound manifest.now }
     requires bounds { HasBounds options }
-    ensures { Answered (run_answer (scene_of options.seed options.until options.samples options.limit manifest.now) manifest.now) result (O.written out.old) (O.written out.new) (O.faults out.old) (O.faults out.new) }
+    requires none { kept.old ≡ None }
+    ensures kept { RunLeaves result (record { manifest = manifest.now; options = options }) kept.new }
+    ensures answered { Answered (run_answer (scene_of options.seed options.until options.samples options.limit manifest.now) manifest.now) result (O.written out.old) (O.written out.new) (O.faults out.old) (O.faults out.new) }
 {
-    let span = Span {
-        until: options.until.unwrap_or(manifest.until),
-        samples: options.samples,
-        limit: options.limit,
-    };
-    let seed = options.seed.unwrap_or(manifest.seed);
-    let plan = match plan_of(alloc, manifest, seed) {
-        Ok(plan) => plan,
-        Err(NoMemory) => return Ending::Memory,
-    };
-    let surface = match surface_of(alloc, manifest) {
-        Ok(surface) => surface,
-        Err(NoMemory) => return Ending::Memory,
-    };
-    let mut crew = match crew_for(alloc, manifest, seed, &surface, span.until, options) {
-        Ok(crew) => crew,
+    let (plan, surface, mut crew) = match started(alloc, manifest, options) {
+        Ok(parts) => parts,
         Err(NoMemory) => return Ending::Memory,
     };
     let task = Task {
         names: &manifest.names,
         plan: &plan,
-        span,
+        span: span_of(manifest, options),
     };
-    ending_of(
-        write_run(rt, gate, alloc, &task, &mut crew, surface, out),
-        options.limit,
-    )
+    let run = write_run(rt, gate, alloc, &task, &mut crew, surface, out);
+    let ending = ending_of(run, options.limit);
+    *kept = left_by(ending, crew);
+    ending
 }

@@ -1,32 +1,50 @@
-//! What `stress` writes: how the run of a generated manifest ends. None of its events is written or stays in memory.
+//! What `stress` writes: how the run of a generated manifest ends. A run goes by a crew; what its rounds hand out is
+//! counted, and none of it is written or stays in memory.
 
-ghost use Rattle.std.specs.Prelude.{◌≡◌, ◌≤◌, ◌<◌, ◌^◌, length, ◌++◌, IfOk, IfSome, IfNone, string_bytes};
+ghost use Rattle.std.specs.Prelude.{◌≡◌, ◌≢◌, ◌≤◌, ◌<◌, ◌+◌, ◌^◌, ℕ, List, All, None, length, ◌++◌, IfOk, OnOk, IsErrOf, string_bytes};
+ghost use Rattle.surf_outside.specs.Causes.{Rose};
+ghost use Rattle.surf_kinds.specs.declared.site.SpeciesId.{SpeciesId};
+ghost use Rattle.surf_kinds.specs.Keys.{origin};
+ghost use Rattle.lattice.specs.Surface.{after_all, first_surface};
+ghost use Rattle.plan.specs.Products.{LeavesWithin};
+ghost use Rattle.plan.specs.History.{AreNext};
+ghost use Rattle.warp_core.specs.World.{end_key};
+ghost use Rattle.crew.specs.Crews.{world_in};
 ghost use Rattle.manifest_read.specs.Sound.{IsSound};
-ghost use Rattle.one_engine.specs.State.{history_from, fired_all};
 ghost use Rattle.workload.specs.Generated.{generated_manifest};
-ghost use Rattle.surface_top.specs.Answer.{stress_answer};
-ghost use Rattle.surface_top.specs.Ending.{Answered};
-ghost use Rattle.surface_top.specs.StressText.{first_state, last_time, stress_line};
 ghost use Rattle.trace_text.specs.Lines.{counts_text};
+ghost use Rattle.surface_top.specs.Answer.{stress_answer};
+ghost use Rattle.surface_top.specs.Counting.{GoesOn, EndsAlike, counted_of};
+ghost use Rattle.surface_top.specs.Crewed.{IsAlong, IsPastLimit, IsSameCrew, rounds_left};
+ghost use Rattle.surface_top.specs.Cuts.{surface_after};
+ghost use Rattle.surface_top.specs.Ending.{Answered};
+ghost use Rattle.surface_top.specs.Kept.{RunLeaves, stress_options};
+ghost use Rattle.surface_top.specs.RunText.{events_of};
+ghost use Rattle.surface_top.specs.Stops.{IsLimited, EndGains};
+ghost use Rattle.surface_top.specs.StressText.{last_time, stress_line, stress_text};
+ghost use Rattle.surface_top.specs.Writing.{scene_of};
 
-use crate::answers::put_text;
 use crate::buffer::Buffer;
 use crate::ending::Ending;
+use crate::pages::Stop;
+use crate::run::{RunOptions, ending_of, left_by, span_of, started};
+use crate::writer::Task;
+use crew::Crew;
 use manifest_read::Manifest;
 use manifest_read::laws::manifests_are_sound;
-use one_engine::Engine;
 use plan::Plan;
 use species::Names;
 use std::alloc::{AllocError, Global};
-use surf_kinds::NoMemory;
-use surf_outside::{Failed, Sink, put_all};
+use std::thread::Threads;
+use surf_kinds::{Event, NoMemory};
+use surf_outside::{Failed, Gate, Sink, put_all};
 use surface_state::Surface;
 use trace_text::write_counts;
 
 /// The most events of a run.
 const MOST_EVENTS: u64 = 10_000_000;
 
-/// How a run ended.
+/// How a run ended, or how far it has come.
 #[derive(Clone, Copy)]
 pub(crate) struct RunEnd {
     pub(crate) events: u64,
@@ -34,25 +52,91 @@ pub(crate) struct RunEnd {
     pub(crate) last: u64,
 }
 
-/// Fires all events up to a tick. None where there are more than the limit.
-fn fire_all(engine: &mut Engine, until: u64, limit: u64) -> Option<RunEnd>
-    requires { until ≤ 10 ^ 15 }
-    ensures many { IfNone result (limit < length (history_from until engine.old)) }
-    ensures few { IfSome result (λ r. length (history_from until engine.old) ≤ limit) }
-    ensures end { IfSome result (λ r. r ≡ record { events = length (history_from until engine.old); last = last_time 0 (history_from until engine.old) }) }
-    ensures fired { IfSome result (λ r. engine.new ≡ fired_all engine.old (history_from until engine.old)) }
+/// The next events of a surface happen on it. Gives the tick of the last of them, or the tick that is handed in where there
+/// are none.
+fn apply_events(plan: &Plan, surface: &mut Surface, events: &[Event], tick: u64) -> u64
+    requires goes_on { GoesOn plan.now surface.old }
+    requires next { (until : ℕ) × (until ≤ 10 ^ 15) × AreNext plan.now until surface.old.sites events.now }
+    ensures goes_on { GoesOn plan.now surface.new }
+    ensures same { surface.new ≡ record surface.old { sites = after_all plan.now.lattice plan.now.rules surface.old.sites events.now } }
+    ensures last { result ≡ last_time tick events.now }
+{
+    let mut last = tick;
+    for event in events {
+        surface.apply(*event, plan.products(event.channel));
+        last = event.time;
+    }
+    last
+}
+
+/// Makes a round. What it hands out is counted and happens on the surface; then it is dropped.
+fn count_round<R: Threads + Sync, G: Gate>(
+    rt: &R,
+    gate: &G,
+    task: &Task,
+    crew: &mut Crew,
+    surface: &mut Surface,
+    end: RunEnd,
+) -> Result<RunEnd, Stop>
+    requires unfinished { crew.old.horizon ≢ end_key (world_in crew.old) }
+    requires duration { task.now.span.until ≤ 10 ^ 15 }
+    requires goes_on { GoesOn task.now.plan.now surface.old }
+    requires along { IsAlong (scene_of task.now) crew.old (counted_of surface.old end) }
+    requires within { end.events ≤ task.now.span.limit }
+    ensures goes_on { OnOk result (GoesOn task.now.plan.now surface.new) }
+    ensures along { IfOk result (λ e. IsAlong (scene_of task.now) crew.new (counted_of surface.new e)) }
+    ensures alike { IfOk result (λ e. EndsAlike (scene_of task.now) surface.old.sites end surface.new.sites e) }
+    ensures within { IfOk result (λ e. e.events ≤ task.now.span.limit) }
+    ensures surface { OnOk result (surface.new ≡ record surface.old { sites = surface.new.sites }) }
+    ensures fewer { OnOk result (rounds_left (scene_of task.now) crew.new surface.new.sites < rounds_left (scene_of task.now) crew.old surface.old.sites) }
+    ensures many { IsErrOf result Stop.Limit → task.now.span.limit < end.events + length (events_of (scene_of task.now) surface.old.sites) }
+    ensures past { IsErrOf result Stop.Limit → IsPastLimit (scene_of task.now) crew.new }
+    ensures unwritten { IsErrOf result Stop.Write → ⊥ }
+    ensures same { IsSameCrew crew.old crew.new }
+{
+    let events = match crew.round(rt, gate) {
+        Ok(events) => events,
+        Err(NoMemory) => return Err(Stop::Memory),
+    };
+    let handed = events.len() as u64;
+    if handed > task.span.limit - end.events {
+        return Err(Stop::Limit);
+    }
+    let last = apply_events(task.plan, surface, events.as_slice(), end.last);
+    Ok(RunEnd {
+        events: end.events + handed,
+        last,
+    })
+}
+
+/// Makes rounds until the crew is finished.
+fn count_rounds<R: Threads + Sync, G: Gate>(
+    rt: &R,
+    gate: &G,
+    task: &Task,
+    crew: &mut Crew,
+    surface: &mut Surface,
+) -> Result<RunEnd, Stop>
+    requires duration { task.now.span.until ≤ 10 ^ 15 }
+    requires goes_on { GoesOn task.now.plan.now surface.old }
+    requires along { IsAlong (scene_of task.now) crew.old (counted_of surface.old (record { events = 0; last = 0 })) }
+    ensures end { IfOk result (λ e. e ≡ record { events = length (events_of (scene_of task.now) surface.old.sites); last = last_time 0 (events_of (scene_of task.now) surface.old.sites) }) }
+    ensures few { OnOk result (length (events_of (scene_of task.now) surface.old.sites) ≤ task.now.span.limit) }
+    ensures surface { OnOk result (surface.new ≡ record surface.old { sites = surface_after (scene_of task.now) surface.old.sites (events_of (scene_of task.now) surface.old.sites) }) }
+    ensures many { IsErrOf result Stop.Limit → task.now.span.limit < length (events_of (scene_of task.now) surface.old.sites) }
+    ensures unwritten { IsErrOf result Stop.Write → ⊥ }
+    ensures finished { OnOk result (crew.new.horizon ≡ end_key (world_in crew.new)) }
+    ensures past { IsErrOf result Stop.Limit → IsPastLimit (scene_of task.now) crew.new }
+    ensures same { IsSameCrew crew.old crew.new }
 {
     let mut end = RunEnd { events: 0, last: 0 };
-    while let Some(event) = engine.fire(until) {
-        if end.events >= limit {
-            return None;
+    while !crew.finished() {
+        match count_round(rt, gate, task, crew, surface, end) {
+            Ok(later) => end = later,
+            Err(stop) => return Err(stop),
         }
-        end = RunEnd {
-            events: end.events + 1,
-            last: event.time,
-        };
     }
-    Some(end)
+    Ok(end)
 }
 
 /// The line of a run of the manifest of a number.
@@ -89,44 +173,117 @@ fn stress_text(
     }
 }
 
-/// An engine on the first surface of a manifest.
-fn engine_of(alloc: Global, manifest: &Manifest) -> Result<Engine, NoMemory>
-    requires { IsSound manifest.now }
-    ensures { IfOk result (λ engine. engine ≡ first_state manifest.now) }
+/// Runs a crew to its end, and writes what `stress` says of it. Where it has more events than the limit, nothing is written.
+fn write_stress<R: Threads + Sync, O: Sink, G: Gate>(
+    rt: &R,
+    gate: &G,
+    alloc: Global,
+    number: u64,
+    task: &Task,
+    crew: &mut Crew,
+    mut surface: Surface,
+    out: &mut O,
+) -> Result<(), Stop>
+    requires lattice { surface.lattice ≡ task.now.plan.now.lattice }
+    requires species_count { surface.species_count ≡ length task.now.names.now }
+    requires species { All (LeavesWithin surface.species_count) task.now.plan.now.rules }
+    requires first { (cells : List SpeciesId) × (surface.sites ≡ first_surface cells) }
+    requires duration { task.now.span.until ≤ 10 ^ 15 }
+    requires network { crew.old.network ≡ task.now.plan.now }
+    requires until { crew.old.until ≡ task.now.span.until }
+    requires start { crew.old.start ≡ surface }
+    requires horizon { crew.old.horizon ≡ origin }
+    ensures limited { IsLimited result (scene_of task.now) surface.sites }
+    ensures text { EndGains result (stress_text number (scene_of task.now) surface.sites) (O.written out.old) (O.written out.new) }
+    ensures write { IsErrOf result Stop.Write → Rose (O.faults out.old) (O.faults out.new) }
+    ensures few { IsErrOf result Stop.Write → length (events_of (scene_of task.now) surface.sites) ≤ task.now.span.limit }
+    ensures finished { OnOk result (crew.new.horizon ≡ end_key (world_in crew.new)) }
+    ensures past { IsErrOf result Stop.Limit → IsPastLimit (scene_of task.now) crew.new }
+    ensures same { IsSameCrew crew.old crew.new }
 {
-    let lattice = manifest.lattice;
-    let plan = Plan::new(alloc, manifest.rules.as_slice(), lattice, manifest.seed)?;
-    let cells = manifest.cells.as_slice();
-    let surface = Surface::new(alloc, lattice, cells, manifest.names.count())?;
-    Engine::new(alloc, plan, surface)
-}
-
-/// Runs a manifest to its end, and writes what `stress` says of it.
-fn stress_manifest<O: Sink>(alloc: Global, number: u64, manifest: &Manifest, out: &mut O) -> Ending
-    requires { IsSound manifest.now }
-    ensures { Answered (stress_answer number manifest.now) result (O.written out.old) (O.written out.new) (O.faults out.old) (O.faults out.new) }
-{
-    let mut engine = match engine_of(alloc, manifest) {
-        Ok(engine) => engine,
-        Err(NoMemory) => return Ending::Memory,
+    let end = match count_rounds(rt, gate, task, crew, &mut surface) {
+        Ok(end) => end,
+        Err(stop) => return Err(stop),
     };
-    let Some(end) = fire_all(&mut engine, manifest.until, MOST_EVENTS) else {
-        return Ending::EventLimit(MOST_EVENTS);
+    let text = match stress_text(alloc, number, task.names, &surface, end) {
+        Ok(text) => text,
+        Err(NoMemory) => return Err(Stop::Memory),
     };
-    match stress_text(alloc, number, &manifest.names, engine.surface(), end) {
-        Ok(text) => put_text(out, text.bytes()),
-        Err(NoMemory) => Ending::Memory,
+    match put_all(out, text.bytes()) {
+        Ok(()) => Ok(()),
+        Err(Failed) => Err(Stop::Write),
     }
 }
 
-/// Runs the manifest of a number to its end, and writes how it ended.
-pub(crate) fn stress<O: Sink>(alloc: Global, number: u64, out: &mut O) -> Ending
-    requires { number ≤ 1000000000 }
-    ensures { Answered (stress_answer number (generated_manifest number)) result (O.written out.old) (O.written out.new) (O.faults out.old) (O.faults out.new) }
+/// The options of the run of `stress`: of a manifest's own seed and duration, without a surface.
+fn stress_options(workers: u64) -> RunOptions
+    ensures { result ≡ stress_options workers }
+{
+    RunOptions {
+        workers,
+        quota: 256,
+        slots: 256,
+        seed: None,
+        until: None,
+        samples: 0,
+        limit: MOST_EVENTS,
+    }
+}
+
+/// Runs a manifest to its end, and writes what `stress` says of it. The crew of a run that went to its end or met the limit
+/// is left in `kept`.
+fn stress_manifest<R: Threads + Sync, O: Sink, G: Gate>(
+    rt: &R,
+    gate: &G,
+    alloc: Global,
+    workers: u64,
+    number: u64,
+    manifest: &Manifest,
+    kept: &mut Option<Crew>,
+    out: &mut O,
+) -> Ending
+    requires sound { IsSound manifest.now }
+    requires workers { (1 ≤ workers) × (workers ≤ 64) }
+    requires none { kept.old ≡ None }
+    ensures kept { RunLeaves result (record { manifest = manifest.now; options = stress_options workers }) kept.new }
+    ensures answered { Answered (stress_answer number manifest.now) result (O.written out.old) (O.written out.new) (O.faults out.old) (O.faults out.new) }
+{
+    let options = stress_options(workers);
+    let (plan, surface, mut crew) = match started(alloc, manifest, options) {
+        Ok(parts) => parts,
+        Err(NoMemory) => return Ending::Memory,
+    };
+    let task = Task {
+        names: &manifest.names,
+        plan: &plan,
+        span: span_of(manifest, options),
+    };
+    let run = write_stress(rt, gate, alloc, number, &task, &mut crew, surface, out);
+    let ending = ending_of(run, MOST_EVENTS);
+    *kept = left_by(ending, crew);
+    ending
+}
+
+/// Runs the manifest of a number to its end, and writes how it ended. The crew of a run that went to its end or met the
+/// limit is left in `kept`.
+pub(crate) fn stress<R: Threads + Sync, O: Sink, G: Gate>(
+    rt: &R,
+    gate: &G,
+    alloc: Global,
+    workers: u64,
+    number: u64,
+    kept: &mut Option<Crew>,
+    out: &mut O,
+) -> Ending
+    requires number { number ≤ 1000000000 }
+    requires workers { (1 ≤ workers) × (workers ≤ 64) }
+    requires none { kept.old ≡ None }
+    ensures kept { RunLeaves result (record { manifest = generated_manifest number; options = stress_options workers }) kept.new }
+    ensures answered { Answered (stress_answer number (generated_manifest number)) result (O.written out.old) (O.written out.new) (O.faults out.old) (O.faults out.new) }
 {
     manifests_are_sound();
     match workload::make(alloc, number) {
-        Ok(manifest) => stress_manifest(alloc, number, &manifest, out),
+        Ok(manifest) => stress_manifest(rt, gate, alloc, workers, number, &manifest, kept, out),
         Err(NoMemory) => Ending::Memory,
     }
 }

@@ -17,7 +17,7 @@ struct Row {
     notes: &'static str,
 }
 
-const CATALYST: &str =
+pub(crate) const CATALYST: &str =
     "!START_TRANSITION_RULES\n(1000000000) A + B -> A + C\n!END_TRANSITION_RULES\n!START_INIT_STATE\nB A B\n!END_INIT_STATE\n";
 
 const DECAY: &str =
@@ -341,10 +341,12 @@ fn answers<R: Threads + Sync + Abort>(
     let mut source = MemSource::new(alloc, text, 65_536, &[fails.source])?;
     let mut out = MemSink::new(alloc, 1000, 7, &[fails.out])?;
     let mut notes = MemSink::new(alloc, 1000, 4, &[fails.notes])?;
+    let mut kept = None;
     let status = surface_main(
         rt,
         alloc,
         words.as_slice(),
+        &mut kept,
         &mut source,
         &mut out,
         &mut notes,
@@ -517,10 +519,12 @@ pub(crate) fn written<R: Threads + Sync + Abort>(
     let mut source = MemSource::new(alloc, text.as_bytes(), 65_536, &[])?;
     let mut out = MemSink::new(alloc, 10_000_000, 100_000, &[])?;
     let mut notes = MemSink::new(alloc, 100, 100, &[])?;
+    let mut kept = None;
     let status = surface_main(
         rt,
         alloc,
         words.as_slice(),
+        &mut kept,
         &mut source,
         &mut out,
         &mut notes,

@@ -7,7 +7,7 @@ use Rattle.surface_words.specs.declared.commands.Program.{Program}
 use Rattle.surface_words.specs.declared.commands.Program.TheVariants.{Surface, Watch}
 use Rattle.surface_words.specs.declared.commands.Command.{Command}
 use Rattle.surface_words.specs.declared.options.OptionName.{OptionName}
-use Rattle.surface_words.specs.declared.options.OptionName.TheVariants.{Workers, Seed, Until, Samples, Limit, Inputs, Number, Seeds, First}
+use Rattle.surface_words.specs.declared.options.OptionName.TheVariants.{Workers, Seed, Until, Samples, Limit, Inputs, Number, Seeds, First, Quota, Slots, Report}
 use Rattle.surface_words.specs.Commands.{command_of, is_allowed}
 use Rattle.surface_words.specs.Accepted.{is_accepted_after, is_accepted}
 use Rattle.surface_words.specs.FirstWrong.{CanGoOn, IsDeadEnd, IsFirstWrong, next_option, wrong_from, first_wrong}
@@ -29,11 +29,12 @@ record IsWrongIn (command : Command) (before : List OptionName) (words : List (L
   here : CannotFit command before (take (suc i) words) ⊎ IsShortOf command before words i
   least : (j : ℕ) → j < i → CanFit command before (take (suc j) words)
 
--- one is a value allowed for every option
-example : List ℕ
-example = codes "1"
+-- a value that is allowed for an option
+example : OptionName → List ℕ
+example Report = codes "yes"
+example option = codes "1"
 
-example_allowed : (option : OptionName) → is_allowed option example ≡ true
+example_allowed : (option : OptionName) → is_allowed option (example option) ≡ true
 unfolding example
 example_allowed Workers = refl
 example_allowed Seed = refl
@@ -44,6 +45,9 @@ example_allowed Inputs = refl
 example_allowed Number = refl
 example_allowed Seeds = refl
 example_allowed First = refl
+example_allowed Quota = refl
+example_allowed Slots = refl
+example_allowed Report = refl
 
 none_fits : (command : Command) (before : List OptionName) (name : List ℕ) (words : List (List ℕ)) → next_option command before name ≡ None → fits command before (name ∷ words) ≡ false
 none_fits command before name [] e = refl
@@ -55,7 +59,7 @@ pair_fits command before name value option e allowed words = rw (e, allowed) ref
 
 -- an option can always be given a value
 open_name : (command : Command) (before : List OptionName) (name : List ℕ) (option : OptionName) → next_option command before name ≡ Some option → CanFit command before (name ∷ [])
-open_name command before name option e = (example ∷ [], pair_fits command before name example option e (example_allowed option) [])
+open_name command before name option e = (example option ∷ [], pair_fits command before name (example option) option e (example_allowed option) [])
 
 -- where the option is wrong
 wrong_name : (command : Command) (before : List OptionName) (name : List ℕ) (words : List (List ℕ)) → next_option command before name ≡ None → IsWrongIn command before (name ∷ words) 0

@@ -10,7 +10,7 @@ use Rattle.surface_words.specs.declared.commands.Program.{Program}
 use Rattle.surface_words.specs.declared.commands.Command.{Command}
 use Rattle.surface_words.specs.declared.commands.Command.TheVariants.{Check, Print, Run, Compile, Value, Gen, Stress, Ensemble, Bench}
 use Rattle.surface_words.specs.declared.options.OptionName.{OptionName}
-use Rattle.surface_words.specs.declared.options.OptionName.TheVariants.{Workers, Until, Samples, Limit, Inputs, Number, Seeds}
+use Rattle.surface_words.specs.declared.options.OptionName.TheVariants.{Workers, Until, Samples, Limit, Inputs, Number, Seeds, Quota, Slots}
 use Rattle.surface_words.specs.declared.words.Words.{Words}
 use Rattle.surface_words.specs.Commands.{command_of, option_of, same_option, whole_in, number_of}
 use Rattle.surface_words.specs.Accepted.{Pair, pairs_of, with_pair, is_accepted}
@@ -109,12 +109,18 @@ words_within Run pairs count e =
     let workers = workers_within pairs in
     let samples = with_default (IsWithin 0 10000) (number_given Samples pairs) 1 (given_within Samples (IsWithin 0 10000) (whole_within 0 10000) pairs) (lit≤ tt, lit≤ tt) in
     let limit = limit_within pairs in
+    let quota = with_default (IsWithin 1 65536) (number_given Quota pairs) 256 (given_within Quota (IsWithin 1 65536) (whole_within 1 65536) pairs) (lit≤ tt, lit≤ tt) in
+    let slots = with_default (IsWithin 1 65536) (number_given Slots pairs) 256 (given_within Slots (IsWithin 1 65536) (whole_within 1 65536) pairs) (lit≤ tt, lit≤ tt) in
     record {
       workers_at_least = workers.0;
       workers_at_most = workers.1;
       until_at_most = given_within Until (λ ticks. ticks ≤ 10 ^ 15) duration_within pairs;
       samples_at_most = samples.1;
       limit_at_most = limit.1;
+      quota_at_least = quota.0;
+      quota_at_most = quota.1;
+      slots_at_least = slots.0;
+      slots_at_most = slots.1;
     }
 words_within Compile pairs count e = inputs_within (index_given Inputs 2 pairs) pairs count e (index_below Inputs pairs 2)
 words_within Value pairs count e = inputs_within (index_given Inputs 2 pairs) pairs count e (index_below Inputs pairs 2)

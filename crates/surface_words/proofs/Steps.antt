@@ -4,10 +4,10 @@ use Rattle.std.specs.List.{list_all}
 use Rattle.std.specs.Option.{option_map, option_or}
 use Rattle.surface_words.specs.declared.given.Given.{Given}
 use Rattle.surface_words.specs.declared.options.OptionName.{OptionName}
-use Rattle.surface_words.specs.declared.options.OptionName.TheVariants.{Workers, Seed, Until, Samples, Limit, Inputs, Number, Seeds, First}
-use Rattle.surface_words.specs.Commands.{same_option, number_of, is_bit, is_allowed}
+use Rattle.surface_words.specs.declared.options.OptionName.TheVariants.{Workers, Seed, Until, Samples, Limit, Inputs, Number, Seeds, First, Quota, Slots, Report}
+use Rattle.surface_words.specs.Commands.{same_option, number_of, choice_of, is_bit, is_allowed}
 use Rattle.surface_words.specs.Accepted.{Pair}
-use Rattle.surface_words.specs.Reading.{number_given, index_given}
+use Rattle.surface_words.specs.Reading.{number_given, choice_given, index_given}
 use Rattle.surface_words.specs.Given.{has, with_value}
 
 -- the values with those that pairs give, where the first pair's value has the index `at`
@@ -22,6 +22,9 @@ merged given at pairs = record {
   number = option_or given.number (number_given Number pairs);
   seeds = option_or given.seeds (number_given Seeds pairs);
   first = option_or given.first (number_given First pairs);
+  quota = option_or given.quota (number_given Quota pairs);
+  slots = option_or given.slots (number_given Slots pairs);
+  report = option_or given.report (choice_given Report pairs);
 }
 
 abbrev HasMore : Given → OptionName → Given → OptionName → Type 0
@@ -36,8 +39,8 @@ none_where : {T : Type 0} (o : Option T) → is_some o ≡ false → o ≡ None
 none_where None h = refl
 none_where (Some x) h = absurd (cc)
 
--- what holds of the values with any number holds of those that were made of one
-by_number : (f : ℕ → Given) (number : Option ℕ) (new : Given) (P : Given → Type 0) → ((n : ℕ) → number ≡ Some n → P (f n)) → option_map f number ≡ Some new → P new
+-- what holds of the values with any number, or choice, holds of those that were made of one
+by_number : {T : Type 0} (f : T → Given) (number : Option T) (new : Given) (P : Given → Type 0) → ((n : T) → number ≡ Some n → P (f n)) → option_map f number ≡ Some new → P new
 by_number f None new P g h = absurd (cc)
 by_number f (Some n) new P g h = let e : f n ≡ new = cc in subst P e (g n refl)
 
@@ -95,6 +98,24 @@ step_first old value index n e = record {
   same_rest = λ h pairs. let none = none_where old.first h in rw (none, e) refl;
 }
 
+step_quota : (old : Given) (value : List ℕ) (index n : ℕ) → number_of Quota value ≡ Some n → IsStep old Quota value index (record old { quota = Some n })
+step_quota old value index n e = record {
+  has_more = λ other. elim other as (HasMore old Quota (record old { quota = Some n })) [ Quota ↦ refl | _ ↦ refl ];
+  same_rest = λ h pairs. let none = none_where old.quota h in rw (none, e) refl;
+}
+
+step_slots : (old : Given) (value : List ℕ) (index n : ℕ) → number_of Slots value ≡ Some n → IsStep old Slots value index (record old { slots = Some n })
+step_slots old value index n e = record {
+  has_more = λ other. elim other as (HasMore old Slots (record old { slots = Some n })) [ Slots ↦ refl | _ ↦ refl ];
+  same_rest = λ h pairs. let none = none_where old.slots h in rw (none, e) refl;
+}
+
+step_report : (old : Given) (value : List ℕ) (index : ℕ) (b : Bool) → choice_of value ≡ Some b → IsStep old Report value index (record old { report = Some b })
+step_report old value index b e = record {
+  has_more = λ other. elim other as (HasMore old Report (record old { report = Some b })) [ Report ↦ refl | _ ↦ refl ];
+  same_rest = λ h pairs. let none = none_where old.report h in rw (none, e) refl;
+}
+
 by_test : (b : Bool) (made new : Given) → cond b (Some made) None ≡ Some new → made ≡ new
 by_test true made new h = cc
 by_test false made new h = absurd (cc)
@@ -109,8 +130,11 @@ step_is old Inputs value index new h = subst (IsStep old Inputs value index) (by
 step_is old Number value index new h = by_number (λ n. record old { number = Some n }) (number_of Number value) new (IsStep old Number value index) (step_number old value index) h
 step_is old Seeds value index new h = by_number (λ n. record old { seeds = Some n }) (number_of Seeds value) new (IsStep old Seeds value index) (step_seeds old value index) h
 step_is old First value index new h = by_number (λ n. record old { first = Some n }) (number_of First value) new (IsStep old First value index) (step_first old value index) h
+step_is old Quota value index new h = by_number (λ n. record old { quota = Some n }) (number_of Quota value) new (IsStep old Quota value index) (step_quota old value index) h
+step_is old Slots value index new h = by_number (λ n. record old { slots = Some n }) (number_of Slots value) new (IsStep old Slots value index) (step_slots old value index) h
+step_is old Report value index new h = by_number (λ b. record old { report = Some b }) (choice_of value) new (IsStep old Report value index) (step_report old value index) h
 
-is_some_map : (f : ℕ → Given) (number : Option ℕ) → is_some (option_map f number) ≡ is_some number
+is_some_map : {T : Type 0} (f : T → Given) (number : Option T) → is_some (option_map f number) ≡ is_some number
 is_some_map f None = refl
 is_some_map f (Some n) = refl
 
@@ -129,3 +153,6 @@ allowed_is old Inputs value index = is_some_test (list_all is_bit value) (record
 allowed_is old Number value index = is_some_map (λ n. record old { number = Some n }) (number_of Number value)
 allowed_is old Seeds value index = is_some_map (λ n. record old { seeds = Some n }) (number_of Seeds value)
 allowed_is old First value index = is_some_map (λ n. record old { first = Some n }) (number_of First value)
+allowed_is old Quota value index = is_some_map (λ n. record old { quota = Some n }) (number_of Quota value)
+allowed_is old Slots value index = is_some_map (λ n. record old { slots = Some n }) (number_of Slots value)
+allowed_is old Report value index = is_some_map (λ b. record old { report = Some b }) (choice_of value)

@@ -1,5 +1,5 @@
 -- The commands of the programs, their options, and the values of these.
-use Rattle.std.specs.Prelude.{ℕ, Bool, ◌&&◌, ◌||◌, ◌==◌, nat_le, List, [], ◌∷◌, find, Option, Some, None, is_some, if◌then◌else◌, codes}
+use Rattle.std.specs.Prelude.{ℕ, Bool, true, false, ◌&&◌, ◌||◌, ◌==◌, nat_le, List, [], ◌∷◌, find, Option, Some, None, is_some, if◌then◌else◌, codes}
 use Rattle.std.specs.List.{list_any, list_all}
 use Rattle.std.specs.Option.{option_and_then}
 use Rattle.std.specs.Str.{bytes_eq}
@@ -10,7 +10,7 @@ use Rattle.surface_words.specs.declared.commands.Program.TheVariants as program
 use Rattle.surface_words.specs.declared.commands.Command.{Command}
 use Rattle.surface_words.specs.declared.commands.Command.TheVariants.{Check, Print, Run, Compile, Value, Gen, Stress, Ensemble, Bench}
 use Rattle.surface_words.specs.declared.options.OptionName.{OptionName}
-use Rattle.surface_words.specs.declared.options.OptionName.TheVariants.{Workers, Seed, Until, Samples, Limit, Inputs, Number, Seeds, First}
+use Rattle.surface_words.specs.declared.options.OptionName.TheVariants.{Workers, Seed, Until, Samples, Limit, Inputs, Number, Seeds, First, Quota, Slots, Report}
 
 abbrev pub commands_of : Program → List Command
 commands_of program.Surface = Check ∷ Print ∷ Run ∷ Compile ∷ Value ∷ Gen ∷ Stress ∷ Ensemble ∷ Bench ∷ []
@@ -41,9 +41,12 @@ option_text Inputs = codes "--inputs"
 option_text Number = codes "--number"
 option_text Seeds = codes "--seeds"
 option_text First = codes "--first"
+option_text Quota = codes "--quota"
+option_text Slots = codes "--slots"
+option_text Report = codes "--report"
 
 abbrev pub all_options : List OptionName
-all_options = Workers ∷ Seed ∷ Until ∷ Samples ∷ Limit ∷ Inputs ∷ Number ∷ Seeds ∷ First ∷ []
+all_options = Workers ∷ Seed ∷ Until ∷ Samples ∷ Limit ∷ Inputs ∷ Number ∷ Seeds ∷ First ∷ Quota ∷ Slots ∷ Report ∷ []
 
 -- the option that a word names
 abbrev pub option_of : List ℕ → Option OptionName
@@ -58,7 +61,7 @@ is_among option options = list_any (same_option option) options
 abbrev pub options_of : Command → List OptionName
 options_of Check = []
 options_of Print = []
-options_of Run = Workers ∷ Seed ∷ Until ∷ Samples ∷ Limit ∷ []
+options_of Run = Workers ∷ Seed ∷ Until ∷ Samples ∷ Limit ∷ Quota ∷ Slots ∷ Report ∷ []
 options_of Compile = Inputs ∷ []
 options_of Value = Inputs ∷ []
 options_of Gen = Number ∷ []
@@ -84,11 +87,19 @@ number_of Inputs value = None
 number_of Number value = whole_in 0 1000000000 value
 number_of Seeds value = whole_in 1 1000 value
 number_of First value = u64_of value
+number_of Quota value = whole_in 1 65536 value
+number_of Slots value = whole_in 1 65536 value
+number_of Report value = None
 
 -- 0 or 1
 abbrev pub is_bit : ℕ → Bool
 is_bit c = c == 48 || c == 49
 
+-- yes or no
+abbrev pub choice_of : List ℕ → Option Bool
+choice_of value = if bytes_eq value (codes "yes") then Some true else if bytes_eq value (codes "no") then Some false else None
+
 abbrev pub is_allowed : OptionName → List ℕ → Bool
 is_allowed Inputs value = list_all is_bit value
+is_allowed Report value = is_some (choice_of value)
 is_allowed option value = is_some (number_of option value)

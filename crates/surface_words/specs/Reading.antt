@@ -5,10 +5,10 @@ use Rattle.surface_words.specs.declared.commands.Program.{Program}
 use Rattle.surface_words.specs.declared.commands.Command.{Command}
 use Rattle.surface_words.specs.declared.commands.Command.TheVariants.{Check, Print, Run, Compile, Value, Gen, Stress, Ensemble, Bench}
 use Rattle.surface_words.specs.declared.options.OptionName.{OptionName}
-use Rattle.surface_words.specs.declared.options.OptionName.TheVariants.{Workers, Seed, Until, Samples, Limit, Inputs, Number, Seeds, First}
+use Rattle.surface_words.specs.declared.options.OptionName.TheVariants.{Workers, Seed, Until, Samples, Limit, Inputs, Number, Seeds, First, Quota, Slots, Report}
 use Rattle.surface_words.specs.declared.words.Words.{Words}
 use Rattle.surface_words.specs.declared.words.Words.TheVariants as variant
-use Rattle.surface_words.specs.Commands.{command_of, same_option, number_of}
+use Rattle.surface_words.specs.Commands.{command_of, same_option, number_of, choice_of}
 use Rattle.surface_words.specs.Accepted.{Pair, pairs_of, is_accepted}
 
 -- the value that the pairs give an option
@@ -19,6 +19,10 @@ value_given option (pair ∷ pairs) = if same_option pair.option option then Som
 -- the number that the pairs give an option
 abbrev pub number_given : OptionName → List Pair → Option ℕ
 number_given option pairs = option_and_then (number_of option) (value_given option pairs)
+
+-- the choice that the pairs give an option
+abbrev pub choice_given : OptionName → List Pair → Option Bool
+choice_given option pairs = option_and_then choice_of (value_given option pairs)
 
 -- the index of the word that is an option's value, where the first pair's value has the index `at`
 abbrev pub index_given : OptionName → ℕ → List Pair → Option ℕ
@@ -35,6 +39,9 @@ words_of Run pairs = variant.Run
     (number_given Until pairs)
     (unwrap_or (number_given Samples pairs) 1)
     (unwrap_or (number_given Limit pairs) 1000000)
+    (unwrap_or (number_given Quota pairs) 256)
+    (unwrap_or (number_given Slots pairs) 256)
+    (unwrap_or (choice_given Report pairs) false)
 words_of Compile pairs = variant.Compile (index_given Inputs 2 pairs)
 words_of Value pairs = variant.Value (index_given Inputs 2 pairs)
 words_of Gen pairs = variant.Gen (unwrap_or (number_given Number pairs) 0)
@@ -60,7 +67,7 @@ reading program words = if is_accepted program words then spelled_words program 
 abbrev pub reads : Words → Bool
 reads variant.Check = true
 reads variant.Print = true
-reads (variant.Run workers seed until samples limit) = true
+reads (variant.Run workers seed until samples limit quota slots report) = true
 reads (variant.Compile inputs) = true
 reads (variant.Value inputs) = true
 reads (variant.Gen number) = false
@@ -69,12 +76,16 @@ reads (variant.Ensemble workers seeds first until limit) = true
 reads variant.Bench = true
 
 -- the bounds of a run
-pub record IsRunInRange (workers : ℕ) (until : Option ℕ) (samples limit : ℕ) : Type 0 where
+pub record IsRunInRange (workers : ℕ) (until : Option ℕ) (samples limit quota slots : ℕ) : Type 0 where
   pub workers_at_least : 1 ≤ workers
   pub workers_at_most : workers ≤ 64
   pub until_at_most : IfSome until (λ ticks. ticks ≤ 10 ^ 15)
   pub samples_at_most : samples ≤ 10000
   pub limit_at_most : limit ≤ 10000000
+  pub quota_at_least : 1 ≤ quota
+  pub quota_at_most : quota ≤ 65536
+  pub slots_at_least : 1 ≤ slots
+  pub slots_at_most : slots ≤ 65536
 
 -- the bounds of a run that is generated
 pub record IsStressInRange (workers number : ℕ) : Type 0 where
@@ -95,7 +106,7 @@ pub record IsEnsembleInRange (workers seeds : ℕ) (until : Option ℕ) (limit :
 abbrev pub IsInRange : ℕ → Words → Type 0
 IsInRange count variant.Check = Unit {0}
 IsInRange count variant.Print = Unit {0}
-IsInRange count (variant.Run workers seed until samples limit) = IsRunInRange workers until samples limit
+IsInRange count (variant.Run workers seed until samples limit quota slots report) = IsRunInRange workers until samples limit quota slots
 IsInRange count (variant.Compile inputs) = IfSome inputs (λ index. index < count)
 IsInRange count (variant.Value inputs) = IfSome inputs (λ index. index < count)
 IsInRange count (variant.Gen number) = number ≤ 1000000000

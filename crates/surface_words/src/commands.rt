@@ -57,7 +57,10 @@ impl Command {
                 | OptionName::Seed
                 | OptionName::Until
                 | OptionName::Samples
-                | OptionName::Limit => true,
+                | OptionName::Limit
+                | OptionName::Quota
+                | OptionName::Slots
+                | OptionName::Report => true,
                 OptionName::Inputs | OptionName::Number | OptionName::Seeds | OptionName::First =>
                     false,
             },
@@ -70,8 +73,13 @@ impl Command {
                 | OptionName::Limit
                 | OptionName::Seeds
                 | OptionName::First => true,
-                OptionName::Seed | OptionName::Samples | OptionName::Inputs | OptionName::Number =>
-                    false,
+                OptionName::Seed
+                | OptionName::Samples
+                | OptionName::Inputs
+                | OptionName::Number
+                | OptionName::Quota
+                | OptionName::Slots
+                | OptionName::Report => false,
             },
         }
     }

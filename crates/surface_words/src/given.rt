@@ -7,7 +7,7 @@ ghost use Rattle.surface_words.specs.FirstWrong.{wrong_from};
 ghost use Rattle.surface_words.specs.Given.{nothing, has as has_value, with_value, free_option, given_by};
 
 use crate::commands::Command;
-use crate::options::{OptionName, are_bits, whole};
+use crate::options::{OptionName, are_bits, choice, whole};
 use rates::read_duration;
 use surf_text::read_u64;
 
@@ -25,6 +25,9 @@ pub(crate) struct Given {
     pub(crate) number: Option<u64>,
     pub(crate) seeds: Option<u64>,
     pub(crate) first: Option<u64>,
+    pub(crate) quota: Option<u64>,
+    pub(crate) slots: Option<u64>,
+    pub(crate) report: Option<bool>,
 }
 
 impl Given {
@@ -41,6 +44,9 @@ impl Given {
             number: None,
             seeds: None,
             first: None,
+            quota: None,
+            slots: None,
+            report: None,
         }
     }
 
@@ -57,29 +63,36 @@ impl Given {
             OptionName::Number => self.number.is_some(),
             OptionName::Seeds => self.seeds.is_some(),
             OptionName::First => self.first.is_some(),
+            OptionName::Quota => self.quota.is_some(),
+            OptionName::Slots => self.slots.is_some(),
+            OptionName::Report => self.report.is_some(),
         }
     }
 
     /// With the value of one more option, whose word has this index; `None` where the value isn't allowed.
-    pub(crate) fn with(self, option: OptionName, value: &[u8], index: usize) -> Option<Given>
+    pub(crate) fn with(self, option: OptionName, value: &str, index: usize) -> Option<Given>
         ensures { result ≡ with_value self option value.now index }
     {
+        let bytes = value.as_bytes();
         let mut given = self;
         match option {
-            OptionName::Workers => given.workers = Some(whole(value, 1, 64)?),
-            OptionName::Seed => given.seed = Some(read_u64(value)?),
-            OptionName::Until => given.until = Some(read_duration(value)?),
-            OptionName::Samples => given.samples = Some(whole(value, 0, 10_000)?),
-            OptionName::Limit => given.limit = Some(whole(value, 0, 10_000_000)?),
+            OptionName::Workers => given.workers = Some(whole(bytes, 1, 64)?),
+            OptionName::Seed => given.seed = Some(read_u64(bytes)?),
+            OptionName::Until => given.until = Some(read_duration(bytes)?),
+            OptionName::Samples => given.samples = Some(whole(bytes, 0, 10_000)?),
+            OptionName::Limit => given.limit = Some(whole(bytes, 0, 10_000_000)?),
             OptionName::Inputs => {
-                if !are_bits(value) {
+                if !are_bits(bytes) {
                     return None;
                 }
                 given.inputs = Some(index);
             }
-            OptionName::Number => given.number = Some(whole(value, 0, 1_000_000_000)?),
-            OptionName::Seeds => given.seeds = Some(whole(value, 1, 1_000)?),
-            OptionName::First => given.first = Some(read_u64(value)?),
+            OptionName::Number => given.number = Some(whole(bytes, 0, 1_000_000_000)?),
+            OptionName::Seeds => given.seeds = Some(whole(bytes, 1, 1_000)?),
+            OptionName::First => given.first = Some(read_u64(bytes)?),
+            OptionName::Quota => given.quota = Some(whole(bytes, 1, 65_536)?),
+            OptionName::Slots => given.slots = Some(whole(bytes, 1, 65_536)?),
+            OptionName::Report => given.report = Some(choice(value)?),
         }
         Some(given)
     }
@@ -112,7 +125,7 @@ impl Given {
             let Some((value, after)) = others.split_first() else {
                 return Err(index + 1);
             };
-            let Some(more) = given.with(option, value.as_bytes(), index + 1) else {
+            let Some(more) = given.with(option, value.as_str(), index + 1) else {
                 return Err(index + 1);
             };
             given = more;

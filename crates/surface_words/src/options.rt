@@ -2,7 +2,7 @@
 
 ghost use Rattle.std.specs.Prelude.{◌≡◌};
 ghost use Rattle.std.specs.List.{list_all};
-ghost use Rattle.surface_words.specs.Commands.{option_of, whole_in, is_bit};
+ghost use Rattle.surface_words.specs.Commands.{option_of, whole_in, is_bit, choice_of};
 
 use surf_text::read_u64;
 
@@ -17,6 +17,9 @@ pub(crate) enum OptionName {
     Number,
     Seeds,
     First,
+    Quota,
+    Slots,
+    Report,
 }
 
 impl OptionName {
@@ -34,6 +37,9 @@ impl OptionName {
             "--number" => Some(OptionName::Number),
             "--seeds" => Some(OptionName::Seeds),
             "--first" => Some(OptionName::First),
+            "--quota" => Some(OptionName::Quota),
+            "--slots" => Some(OptionName::Slots),
+            "--report" => Some(OptionName::Report),
             _ => None,
         }
     }
@@ -56,4 +62,15 @@ pub(crate) fn are_bits(value: &[u8]) -> bool
     ensures { result ≡ list_all is_bit value.now }
 {
     value.iter().all(|c| *c == b'0' || *c == b'1')
+}
+
+/// The choice that a value spells: `yes` or `no`.
+pub(crate) fn choice(value: &str) -> Option<bool>
+    ensures { result ≡ choice_of value.now }
+{
+    match value {
+        "yes" => Some(true),
+        "no" => Some(false),
+        _ => None,
+    }
 }

@@ -25,6 +25,12 @@ pub enum Words {
         samples: u64,
         /// The most events, at most 10,000,000.
         limit: u64,
+        /// The most entries that a region adds in a turn, from 1 to 65,536.
+        quota: u64,
+        /// How many messages the ring between two regions holds, from 1 to 65,536.
+        slots: u64,
+        /// Whether a line says what the workers did.
+        report: bool,
     },
     Compile {
         /// The index of the word with the inputs, which has the characters 0 and 1 alone.
@@ -73,6 +79,9 @@ impl Words {
                 until: given.until,
                 samples: given.samples.unwrap_or(1),
                 limit: given.limit.unwrap_or(1_000_000),
+                quota: given.quota.unwrap_or(256),
+                slots: given.slots.unwrap_or(256),
+                report: given.report.unwrap_or(false),
             },
             Command::Compile => Words::Compile {
                 inputs: given.inputs,

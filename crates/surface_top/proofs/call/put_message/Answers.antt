@@ -1,5 +1,5 @@
 use Rattle.surface_top.proofs.Messages.{gains_of}
 use Rattle.surface_top.proofs.call.put_message.Goals as goal
 
-pub returns : goal.returns
-returns g c = gains_of c.put_all.result _ _ _ _ c.put_all.ensures.ok c.put_all.ensures.err c.put_all.ensures.cause.failed
+pub returns-clause-gains : goal.returns-clause-gains
+returns-clause-gains g c = gains_of c.put_all.result _ _ _ _ c.put_all.ensures.ok c.put_all.ensures.err c.put_all.ensures.cause.failed

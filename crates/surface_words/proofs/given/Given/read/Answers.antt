@@ -22,19 +22,19 @@ returns-in_default-split_first-clause-wrong c =
 
 pub returns-in_default-with-clause-wrong : goal.returns-in_default-with-clause-wrong
 returns-in_default-with-clause-wrong c =
-    let after : map string_bytes c.in-Some.others.now ≡ c.as_bytes.result.now ∷ map string_bytes c.in-Some-split_first.after.now = search rules in
+    let after : map string_bytes c.in-Some.others.now ≡ c.as_str-in-Some.result.now ∷ map string_bytes c.in-Some-split_first.after.now = search rules in
     let rest : map string_bytes c.loop-name.rest.now ≡ c.as_str.result.now ∷ map string_bytes c.in-Some.others.now = search rules in
     comes_first c.args.command (map string_bytes c.args.words.now) (Err (c.loop-name.index + 1))
-    (sym (run_refused c.args.command c.loop-name.given c.loop-name.index c.as_str.result.now c.as_bytes.result.now (map string_bytes c.in-Some-split_first.after.now) c.in-Some-next_option.option (sym c.in-Some-next_option.ensures) (sym c.in_default-with.ensures))
+    (sym (run_refused c.args.command c.loop-name.given c.loop-name.index c.as_str.result.now c.as_str-in-Some.result.now (map string_bytes c.in-Some-split_first.after.now) c.in-Some-next_option.option (sym c.in-Some-next_option.ensures) (sym c.in_default-with.ensures))
     ∙ ap (run c.args.command c.loop-name.given c.loop-name.index) (sym (rest ∙ ap (λ words. c.as_str.result.now ∷ words) after)) ∙ c.loop-name.invariant.same)
 
 pub loop-name-preserved : goal.loop-name-preserved
 loop-name-preserved c =
-    let after : map string_bytes c.in-Some.others.now ≡ c.as_bytes.result.now ∷ map string_bytes c.in-Some-split_first.after.now = search rules in
+    let after : map string_bytes c.in-Some.others.now ≡ c.as_str-in-Some.result.now ∷ map string_bytes c.in-Some-split_first.after.now = search rules in
     let rest : map string_bytes c.loop-name.rest.now ≡ c.as_str.result.now ∷ map string_bytes c.in-Some.others.now = search rules in
     record {
       same =
-          sym (run_onward c.args.command c.loop-name.given c.in-Some-with.more c.loop-name.index c.as_str.result.now c.as_bytes.result.now (map string_bytes c.in-Some-split_first.after.now) c.in-Some-next_option.option (sym c.in-Some-next_option.ensures) (sym c.in-Some-with.ensures))
+          sym (run_onward c.args.command c.loop-name.given c.in-Some-with.more c.loop-name.index c.as_str.result.now c.as_str-in-Some.result.now (map string_bytes c.in-Some-split_first.after.now) c.in-Some-next_option.option (sym c.in-Some-next_option.ensures) (sym c.in-Some-with.ensures))
           ∙ ap (run c.args.command c.loop-name.given c.loop-name.index) (sym (rest ∙ ap (λ words. c.as_str.result.now ∷ words) after)) ∙ c.loop-name.invariant.same;
       place = omega (arith, c.in-Some.ensures.cases, c.in-Some-split_first.ensures.cases, c.loop-name.invariant.place);
     }
