@@ -20,11 +20,15 @@ use Rattle.surface_words.specs.declared.words.Words.TheVariants.{Run}
 use Rattle.surface_words.specs.FirstWrong.{first_wrong}
 use Rattle.surface_words.specs.Reading.{reading}
 use Rattle.circuit_text.specs.Circuits.{NetList}
+use Rattle.circuit_text.specs.Values.{values_of}
 use Rattle.gate_layout.specs.Table.{Table}
 use Rattle.crn_compile.specs.Species.{circuit_rules}
 use Rattle.crn_compile.specs.Start.{shape_of}
 use Rattle.crn_compile.specs.Settled.{work, OutputsAre, RunsOut}
 use Rattle.crn_compile.specs.Compiled.{IsCompiled}
+use Rattle.track_layout.specs.Tracks.{compact_table}
+use Rattle.track_layout.specs.Turns.{tracks_of}
+use Rattle.track_layout.specs.Compact.{IsCompact}
 use Rattle.trace_text.specs.Lines.{surface_text, end_text}
 use Rattle.surface_top.specs.RunText.{Scene, events_of, start, run_text}
 use Rattle.surface_top.specs.Answer.{Answer, WrongWord, Text, scene_of, run_answer, by_manifest, answer_within, answer_to, specified_answer}
@@ -111,3 +115,8 @@ pub each_runs : {E : Type 0} (c : NetList) (inputs values : List Bool) (t : Tabl
     → IfOk r (λ m. (words : List (List ℕ)) (samples : ℕ) → IsLongRun words samples → RunsToItsValues c values t m words samples)
 each_runs c inputs values t (Ok m) compiled valid short runs again = runs_to_values c inputs values t m compiled (again m valid) short runs
 each_runs c inputs values t (Err e) compiled valid short runs again = tt
+
+pub compact_runs : {E : Type 0} (c : NetList) (inputs : List Bool) (r : Result Manifest E) → IfOk r (IsCompact c inputs) → ((m : Manifest) → IsValid m → manifest_of (canonical_text m) ≡ Ok m)
+    → IfOk r (λ m. (words : List (List ℕ)) (samples : ℕ) → IsLongRun words samples → RunsToItsValues c (values_of c.nets inputs) (compact_table (tracks_of c)) m words samples)
+compact_runs c inputs (Ok m) is again = runs_to_values c inputs (values_of c.nets inputs) (compact_table (tracks_of c)) m is.compiled (again m is.valid) is.short is.runs
+compact_runs c inputs (Err e) is again = tt

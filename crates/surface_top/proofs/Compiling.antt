@@ -1,32 +1,36 @@
--- The refusals of `compile`.
-use Rattle.std.proofs.Common.{rules, ◌≡◌, ℕ, ◌<◌, ◌^◌, Bool, true, false, List, length, Option, refl, sym, ap, ◌∙◌, subst, arith, if◌then◌else◌}
-use Rattle.std.specs.Prelude.{nat_lt, ◌==◌}
+-- The refusals of `compile` and `compact`.
+use Rattle.std.proofs.Common.{rules, ◌≡◌, ℕ, ◌<◌, ◌^◌, Bool, true, false, List, length, Option, Ok, Err, Result, refl, sym, ap, ◌∙◌, subst, arith, if◌then◌else◌}
+use Rattle.std.specs.Prelude.{nat_lt, ◌==◌, IfOk}
 use Rattle.std.proofs.lemmas.Bool.Decides.{nat_tests}
-use Rattle.std.proofs.lemmas.List.{length-map}
 use Rattle.circuit_text.specs.Circuits.{NetList}
 use Rattle.circuit_text.specs.Values.{input_count}
-use Rattle.gate_layout.specs.Layout.{site_count}
+use Rattle.manifest_read.specs.declared.manifest.Manifest.{Manifest}
+use Rattle.crn_compile.specs.Compiled.{compiled_manifest}
+use Rattle.track_layout.specs.Tracks.{compact_table}
+use Rattle.track_layout.specs.Turns.{tracks_of}
+use Rattle.track_layout.specs.Compact.{IsCompact}
+use Rattle.surface_top.specs.declared.answers.LayoutKind.{LayoutKind}
 use Rattle.surface_top.specs.declared.ending.Ending.TheVariants as ending
-use Rattle.surface_top.specs.Answer.{Answer, TooManySites, compile_answer}
+use Rattle.surface_top.specs.Answer.{Answer, TooManySites, sites_on, compile_answer}
 use Rattle.surface_top.specs.Ending.{Answered}
-use Rattle.surface_top.specs.ValueText.{bits_of}
 use Rattle.surface_top.proofs.Written.{appends_none}
 
 choose : (b d : Bool) (x y : Answer) → b ≡ d → (if b then x else y) ≡ (if d then x else y)
 choose b d x y h = ap (λ t. if t then x else y) h
 
-many_sites : (word : List ℕ) (c : NetList) (sites : ℕ) → length word ≡ input_count c.nets → sites ≡ site_count c.nets → 2 ^ 20 < sites → TooManySites sites ≡ compile_answer word c
-many_sites word c sites e s many =
+many_sites : (kind : LayoutKind) (word : List ℕ) (c : NetList) (sites : ℕ) → length word ≡ input_count c.nets → sites ≡ sites_on kind c → 2 ^ 20 < sites → TooManySites sites ≡ compile_answer kind word c
+many_sites kind word c sites e s many =
     let test : (length word == input_count c.nets) ≡ true = grind (arith, nat_tests) in
-    let over : nat_lt (2 ^ 20) (site_count c.nets) ≡ true = grind (arith, nat_tests) in
-    sym (choose (length word == input_count c.nets) true _ _ test ∙ (choose (nat_lt (2 ^ 20) (site_count c.nets)) true _ _ over ∙ ap (λ n. TooManySites n) (sym s)))
+    let over : nat_lt (2 ^ 20) (sites_on kind c) ≡ true = grind (arith, nat_tests) in
+    sym (choose (length word == input_count c.nets) true _ _ test ∙ (choose (nat_lt (2 ^ 20) (sites_on kind c)) true _ _ over ∙ ap (λ n. TooManySites n) (sym s)))
 
 -- the layout is too large
-pub sites_refused : (word : List ℕ) (c : NetList) (sites : ℕ) (old : Option (List ℕ)) (f n : ℕ) → length word ≡ input_count c.nets → sites ≡ site_count c.nets → 2 ^ 20 < sites → Answered (compile_answer word c) (ending.TooManySites sites) old old f n
-sites_refused word c sites old f n e s many =
-    subst (λ x. Answered x (ending.TooManySites sites) old old f n) (many_sites word c sites e s many)
+pub sites_refused : (kind : LayoutKind) (word : List ℕ) (c : NetList) (sites : ℕ) (old : Option (List ℕ)) (f n : ℕ) → length word ≡ input_count c.nets → sites ≡ sites_on kind c → 2 ^ 20 < sites → Answered (compile_answer kind word c) (ending.TooManySites sites) old old f n
+sites_refused kind word c sites old f n e s many =
+    subst (λ x. Answered x (ending.TooManySites sites) old old f n) (many_sites kind word c sites e s many)
     (record { is_of = refl; gains = appends_none old; write = search rules; read = search rules })
 
--- a bit for each character
-pub bits_length : (word : List ℕ) → length (bits_of word) ≡ length word
-bits_length word = length-map word (λ c. c == 49)
+-- what a circuit is compiled to on its compact layout
+pub compact_exact : {E : Type 0} (c : NetList) (inputs : List Bool) (r : Result Manifest E) → IfOk r (IsCompact c inputs) → IfOk r (λ m. m ≡ compiled_manifest c inputs (compact_table (tracks_of c)))
+compact_exact c inputs (Ok m) is = is.exact
+compact_exact c inputs (Err e) is = tt

@@ -12,7 +12,10 @@ use Rattle.circuit_text.specs.Values.{input_count}
 use Rattle.bench_read.specs.declared.fault.BenchFault.{BenchFault}
 use Rattle.bench_read.specs.Netlists.{Netlist, netlist_in}
 use Rattle.bench_read.specs.Chains.{text_of as circuit_text}
+use Rattle.gate_layout.specs.Table.{Table}
 use Rattle.gate_layout.specs.Layout.{site_count, layout}
+use Rattle.track_layout.specs.Tracks.{compact_table, site_count as compact_sites}
+use Rattle.track_layout.specs.Turns.{tracks_of}
 use Rattle.crn_compile.specs.Compiled.{compiled_manifest}
 use Rattle.workload.specs.Generated.{generated_manifest}
 use Rattle.ensemble.specs.declared.outcome.EnsembleSettings.{EnsembleSettings}
@@ -20,9 +23,11 @@ use Rattle.ensemble.specs.Outcomes.{outcomes}
 use Rattle.ensemble.specs.Texts.{ensemble_text}
 use Rattle.surface_words.specs.declared.commands.Program.{Program}
 use Rattle.surface_words.specs.declared.words.Words.{Words}
-use Rattle.surface_words.specs.declared.words.Words.TheVariants.{Check, Print, Run, Compile, Value, Gen, Stress, Ensemble, Bench}
+use Rattle.surface_words.specs.declared.words.Words.TheVariants.{Check, Print, Run, Compile, Value, Gen, Stress, Ensemble, Bench, Compact}
 use Rattle.surface_words.specs.FirstWrong.{first_wrong}
 use Rattle.surface_words.specs.Reading.{reading, reads}
+use Rattle.surface_top.specs.declared.answers.LayoutKind.{LayoutKind}
+use Rattle.surface_top.specs.declared.answers.LayoutKind.TheVariants as on
 use Rattle.surface_top.specs.Checks.{check_text}
 use Rattle.surface_top.specs.RunText.{Scene, events_of, run_text}
 use Rattle.surface_top.specs.StressText.{stress_text}
@@ -82,11 +87,20 @@ abbrev pub value_answer : List ℕ → NetList → Answer
 value_answer word c =
     if length word == input_count c.nets then Text (value_text c (bits_of word)) else WrongInputs (input_count c.nets) (length word)
 
+-- the cells of a circuit on a layout, and its table
+abbrev pub sites_on : LayoutKind → NetList → ℕ
+sites_on on.Closed c = site_count c.nets
+sites_on on.Compact c = compact_sites (tracks_of c)
+
+abbrev pub table_of : LayoutKind → NetList → Table
+table_of on.Closed c = layout c
+table_of on.Compact c = compact_table (tracks_of c)
+
 -- the canonical text of the manifest of a circuit, for a bit of each input; its layout has at most 2^20 sites
-abbrev pub compile_answer : List ℕ → NetList → Answer
-compile_answer word c =
+abbrev pub compile_answer : LayoutKind → List ℕ → NetList → Answer
+compile_answer kind word c =
     if length word == input_count c.nets then
-    (if nat_lt (2 ^ 20) (site_count c.nets) then TooManySites (site_count c.nets) else Text (canonical_text (compiled_manifest c (bits_of word) (layout c))))
+    (if nat_lt (2 ^ 20) (sites_on kind c) then TooManySites (sites_on kind c) else Text (canonical_text (compiled_manifest c (bits_of word) (table_of kind c))))
     else WrongInputs (input_count c.nets) (length word)
 
 abbrev pub by_circuit : (NetList → Answer) → Result NetList CircuitFault → Answer
@@ -124,13 +138,14 @@ abbrev pub answer_within : Words → List (List ℕ) → List ℕ → Answer
 answer_within Check words bytes = by_manifest (λ m. Text (check_text m)) (manifest_of bytes)
 answer_within Print words bytes = by_manifest (λ m. Text (canonical_text m)) (manifest_of bytes)
 answer_within (Run workers seed until samples limit quota slots report) words bytes = by_manifest (λ m. run_answer (scene_of seed until samples limit m) m) (manifest_of bytes)
-answer_within (Compile inputs) words bytes = by_circuit (compile_answer (inputs_in inputs words)) (circuit_in bytes)
+answer_within (Compile inputs) words bytes = by_circuit (compile_answer on.Closed (inputs_in inputs words)) (circuit_in bytes)
 answer_within (Value inputs) words bytes = by_circuit (value_answer (inputs_in inputs words)) (circuit_in bytes)
 answer_within (Gen number) words bytes = gen_answer number
 answer_within (Stress workers number) words bytes = stress_answer number (generated_manifest number)
 answer_within (Ensemble workers seeds first until limit) words bytes =
     by_manifest (λ m. ensemble_answer (settings_of workers seeds first until limit m) m) (manifest_of bytes)
 answer_within Bench words bytes = by_netlist bench_answer (netlist_in bytes)
+answer_within (Compact inputs) words bytes = by_circuit (compile_answer on.Compact (inputs_in inputs words)) (circuit_in bytes)
 
 -- a command that reads takes at most 67,108,864 bytes
 abbrev pub is_too_long : Words → List ℕ → Bool

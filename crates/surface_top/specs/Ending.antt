@@ -92,7 +92,7 @@ manifest_answer (job.Ensemble options) m = ensemble_answer (settings_of options.
 
 -- what is done with a circuit and a word with its inputs, as an answer
 abbrev pub circuit_answer : CircuitJob → List ℕ → NetList → Answer
-circuit_answer task.Compile word c = compile_answer word c
+circuit_answer (task.Compile kind) word c = compile_answer kind word c
 circuit_answer task.Value word c = value_answer word c
 
 -- the bounds of the options of a run

@@ -1,13 +1,15 @@
-//! What `check`, `print`, `gen`, `compile` and `value` write.
+//! What `check`, `print`, `gen`, `compile`, `compact` and `value` write.
 
-ghost use Rattle.std.specs.Prelude.{◌≡◌, ◌<◌, ◌≤◌, ◌++◌, ◌∷◌, [], length, IfOk, OnOk, string_bytes};
-ghost use Rattle.surface_top.specs.Answer.{Text, gen_answer, compile_answer, value_answer};
+ghost use Rattle.std.specs.Prelude.{◌≡◌, ◌≢◌, ◌<◌, ◌≤◌, ◌^◌, ◌++◌, ◌∷◌, [], ℕ, Err, length, IfOk, OnOk, string_bytes};
+ghost use Rattle.surface_top.specs.Answer.{Text, sites_on, table_of, gen_answer, compile_answer, value_answer};
 ghost use Rattle.surface_top.specs.Checks.{check_text, lattice_text, sizes_text};
 ghost use Rattle.surface_top.specs.Ending.{Answered};
 ghost use Rattle.circuit_text.specs.Values.{input_count};
 ghost use Rattle.surface_top.specs.ValueText.{bits_of, bit_text, value_line, value_text, outputs_text};
 ghost use Rattle.manifest_write.specs.Canon.{canonical_text};
 ghost use Rattle.manifest_read.specs.Manifest.{IsValid};
+ghost use Rattle.crn_compile.specs.Compiled.{compiled_manifest};
+ghost use Rattle.crn_compile.specs.declared.compiling.CompileError.TheVariants.{WrongInputs, TooManySites as TooMany};
 
 use crate::buffer::Buffer;
 use crate::ending::Ending;
@@ -165,9 +167,45 @@ pub(crate) fn value<O: Sink>(alloc: Global, circuit: &Circuit, word: &str, out: 
     }
 }
 
-/// Writes the canonical text of the circuit's manifest, for a word with a bit of each input.
-pub(crate) fn compile<O: Sink>(alloc: Global, circuit: &Circuit, word: &str, out: &mut O) -> Ending
-    ensures { Answered (compile_answer word.now circuit.now) result (O.written out.old) (O.written out.new) (O.faults out.old) (O.faults out.new) }
+/// How a circuit is laid out.
+#[derive(Clone, Copy)]
+pub(crate) enum LayoutKind {
+    /// Each net has a row of its own.
+    Closed,
+    /// Nets share rows.
+    Compact,
+}
+
+/// The manifest of a circuit on a layout, with a bit for each input.
+fn manifest_on(
+    alloc: Global,
+    circuit: &Circuit,
+    bits: &[bool],
+    layout: LayoutKind,
+) -> Result<Manifest, CompileError>
+    requires few { length bits.now < 2 ^ 32 }
+    requires count { length bits.now ≡ input_count circuit.now.nets }
+    ensures wrong { (expected given : ℕ) → result ≢ Err (WrongInputs expected given) }
+    ensures many { (sites : ℕ) → result ≡ Err (TooMany sites) → (sites ≡ sites_on layout circuit.now) × (2 ^ 20 < sites) }
+    ensures room { IfOk result (λ m. sites_on layout circuit.now ≤ 2 ^ 20) }
+    ensures exact { IfOk result (λ m. m ≡ compiled_manifest circuit.now bits.now (table_of layout circuit.now)) }
+    ensures valid { IfOk result IsValid }
+{
+    match layout {
+        LayoutKind::Closed => crn_compile::compile(alloc, circuit, bits),
+        LayoutKind::Compact => track_layout::compact(alloc, circuit, bits),
+    }
+}
+
+/// Writes the canonical text of the circuit's manifest on a layout, for a word with a bit of each input.
+pub(crate) fn compile<O: Sink>(
+    alloc: Global,
+    circuit: &Circuit,
+    word: &str,
+    layout: LayoutKind,
+    out: &mut O,
+) -> Ending
+    ensures { Answered (compile_answer layout word.now circuit.now) result (O.written out.old) (O.written out.new) (O.faults out.old) (O.faults out.new) }
 {
     let expected = circuit.input_count();
     let given = word.len() as u64;
@@ -177,7 +215,7 @@ pub(crate) fn compile<O: Sink>(alloc: Global, circuit: &Circuit, word: &str, out
     let Ok(bits) = bits(alloc, word.as_bytes()) else {
         return Ending::Memory;
     };
-    match crn_compile::compile(alloc, circuit, &bits) {
+    match manifest_on(alloc, circuit, &bits, layout) {
         Ok(manifest) => print(alloc, &manifest, out),
         Err(CompileError::WrongInputs { expected, given }) => Ending::WrongInputs {
             expected,

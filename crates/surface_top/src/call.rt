@@ -14,7 +14,7 @@ ghost use Rattle.surface_top.specs.Kept.{run_by, run_read, run_within, run_to, s
 ghost use Rattle.surface_top.specs.Reporting.{Told, line_in, wants_report, IsRightReport, IsAnsweredCall};
 ghost use Rattle.surface_top.specs.Outcome.{own_status, Gains, source_view, sink_view, outside};
 
-use crate::answers::{check, compile, generate, print, value};
+use crate::answers::{LayoutKind, check, compile, generate, print, value};
 use crate::ending::Ending;
 use crate::ensembles::{EnsembleOptions, ensemble_manifest};
 use crate::message::message_of;
@@ -150,7 +150,7 @@ fn answer_manifest<R: Threads + Sync, O: Sink, G: Gate>(
 /// What is done with a circuit.
 #[derive(Clone, Copy)]
 pub(crate) enum CircuitJob {
-    Compile,
+    Compile(LayoutKind),
     Value,
 }
 
@@ -170,7 +170,7 @@ fn answer_circuit<O: Sink>(
         Err(ending) => return ending,
     };
     match job {
-        CircuitJob::Compile => compile(alloc, &circuit, inputs, out),
+        CircuitJob::Compile(layout) => compile(alloc, &circuit, inputs, layout, out),
         CircuitJob::Value => value(alloc, &circuit, inputs, out),
     }
 }
@@ -220,7 +220,12 @@ fn answer_text<R: Threads + Sync, O: Sink, G: Gate>(
             answer_manifest(rt, gate, alloc, text, job, kept, out)
         }
         Words::Compile { inputs: index } => {
-            answer_circuit(alloc, text, CircuitJob::Compile, inputs(words, index), out)
+            let job = CircuitJob::Compile(LayoutKind::Closed);
+            answer_circuit(alloc, text, job, inputs(words, index), out)
+        }
+        Words::Compact { inputs: index } => {
+            let job = CircuitJob::Compile(LayoutKind::Compact);
+            answer_circuit(alloc, text, job, inputs(words, index), out)
         }
         Words::Value { inputs: index } => {
             answer_circuit(alloc, text, CircuitJob::Value, inputs(words, index), out)
@@ -341,10 +346,10 @@ fn report<N: Sink>(
 
 /// The program `surface`: does what the words say with the text that the source holds, and writes to `out`.
 ///
-/// The commands `check`, `print`, `run` and `ensemble` read a manifest, `compile` and `value` read a circuit, `bench` reads
-/// a netlist, and `gen` and `stress` read nothing. Where the words are wrong nothing is read. Else the source is read to
-/// its end, of at most 67,108,864 bytes, and then the first fault of the text decides; behind it, for `compile`, the size
-/// of the circuit's layout.
+/// The commands `check`, `print`, `run` and `ensemble` read a manifest, `compile`, `compact` and `value` read a circuit,
+/// `bench` reads a netlist, and `gen` and `stress` read nothing. Where the words are wrong nothing is read. Else the source
+/// is read to its end, of at most 67,108,864 bytes, and then the first fault of the text decides; behind it, for `compile`
+/// and `compact`, the size of the circuit's layout.
 ///
 /// - `Done`: the whole text of the answer was written to `out`.
 /// - `Words`: exactly where the words aren't accepted.

@@ -95,7 +95,7 @@ fn each_input_gives_its_output(rt: HostRuntime) -> Result<(), Fail> {
 }
 
 /// Gates of one operand one behind the other.
-fn chain(alloc: Global, count: u32) -> Result<String, Fail> {
+pub(crate) fn chain(alloc: Global, count: u32) -> Result<String, Fail> {
     let mut text = String::from_str(alloc, "input n0\n")?;
     for i in 0..count {
         let next = i + 1;

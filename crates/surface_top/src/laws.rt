@@ -9,6 +9,8 @@ ghost use Rattle.one_engine.specs.State.{LeavesWithin};
 ghost use Rattle.trace_text.specs.Lines.{counts_of};
 ghost use Rattle.circuit_text.specs.Values.{values_of};
 ghost use Rattle.gate_layout.specs.Layout.{layout};
+ghost use Rattle.track_layout.specs.Tracks.{compact_table};
+ghost use Rattle.track_layout.specs.Turns.{tracks_of};
 ghost use Rattle.surface_words.specs.declared.commands.Program.TheVariants.{Surface};
 ghost use Rattle.surface_top.specs.Answer.{Text, specified_answer};
 ghost use Rattle.surface_top.specs.CircuitRuns.{IsLongRun, RunsToItsValues};
@@ -25,6 +27,7 @@ use manifest_write::read_again;
 use plan::laws::one_after_the_other;
 use std::alloc::Global;
 use trace_text::laws::each_site_is_counted_once;
+use track_layout::compact;
 
 /// Where a run has at most as many events as its limit, its text goes tick by tick: the surface that is shown at a
 /// sampling tick is the first surface after the events of the history with times up to that tick.
@@ -64,6 +67,19 @@ pub fn compiled_circuits_run_to_their_values(
 {
     read_again();
     compile(alloc, circuit, inputs)
+}
+
+/// So does a run of a circuit that is compiled on its compact layout.
+pub fn compact_circuits_run_to_their_values(
+    alloc: Global,
+    circuit: &Circuit,
+    inputs: &[bool],
+) -> Result<Manifest, CompileError>
+    requires few { length inputs.now < 2 ^ 32 }
+    ensures runs { IfOk result (λ m. (words : List (List ℕ)) (samples : ℕ) → IsLongRun words samples → RunsToItsValues circuit.now (values_of circuit.now.nets inputs.now) (compact_table (tracks_of circuit.now)) m words samples) }
+{
+    read_again();
+    compact(alloc, circuit, inputs)
 }
 
 /// Netlists keep their values. Where `bench` answers bytes by a text, these are the bytes of a netlist, the text is accepted

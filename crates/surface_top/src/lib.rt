@@ -6,8 +6,8 @@
 //! generated manifest or how a run of it ends. A run goes by a crew, and what each of its rounds hands out goes to the one
 //! writer of run texts before the next round begins. What a run of `stress` hands out is counted alone.
 //!
-//! The crate stands on the readers of words, manifests, circuits and netlists, on the compiler of circuits and the
-//! generator of manifests, on the crew and the ensemble, and on the writers of texts.
+//! The crate stands on the readers of words, manifests, circuits and netlists, on the two layouts of circuits and their
+//! compiler, on the generator of manifests, on the crew and the ensemble, and on the writers of texts.
 #![tactic(auto)]
 
 mod answers;
@@ -32,6 +32,8 @@ pub use surface_words::{Program, Words};
 
 #[cfg(test)]
 mod circuit_tests;
+#[cfg(test)]
+mod compact_tests;
 #[cfg(test)]
 mod netlist_tests;
 #[cfg(test)]

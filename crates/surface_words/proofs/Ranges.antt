@@ -8,7 +8,7 @@ use Rattle.surf_text.specs.declared.numbers.Dec.{Dec}
 use Rattle.rates.specs.Durations.{ticks_of, duration_of}
 use Rattle.surface_words.specs.declared.commands.Program.{Program}
 use Rattle.surface_words.specs.declared.commands.Command.{Command}
-use Rattle.surface_words.specs.declared.commands.Command.TheVariants.{Check, Print, Run, Compile, Value, Gen, Stress, Ensemble, Bench}
+use Rattle.surface_words.specs.declared.commands.Command.TheVariants.{Check, Print, Run, Compile, Value, Gen, Stress, Ensemble, Bench, Compact}
 use Rattle.surface_words.specs.declared.options.OptionName.{OptionName}
 use Rattle.surface_words.specs.declared.options.OptionName.TheVariants.{Workers, Until, Samples, Limit, Inputs, Number, Seeds, Quota, Slots}
 use Rattle.surface_words.specs.declared.words.Words.{Words}
@@ -141,6 +141,7 @@ words_within Ensemble pairs count e =
       limit_at_most = limit.1;
     }
 words_within Bench pairs count e = tt
+words_within Compact pairs count e = inputs_within (index_given Inputs 2 pairs) pairs count e (index_below Inputs pairs 2)
 
 pub reading_within : (program : Program) (words : List (List ℕ)) (w : Words) → reading program words ≡ Some w → IsInRange (length words) w
 reading_within program words w h = by (is_accepted program words) h

@@ -8,12 +8,12 @@ use Rattle.rates.specs.Durations.{duration_of}
 use Rattle.surface_words.specs.declared.commands.Program.{Program}
 use Rattle.surface_words.specs.declared.commands.Program.TheVariants as program
 use Rattle.surface_words.specs.declared.commands.Command.{Command}
-use Rattle.surface_words.specs.declared.commands.Command.TheVariants.{Check, Print, Run, Compile, Value, Gen, Stress, Ensemble, Bench}
+use Rattle.surface_words.specs.declared.commands.Command.TheVariants.{Check, Print, Run, Compile, Value, Gen, Stress, Ensemble, Bench, Compact}
 use Rattle.surface_words.specs.declared.options.OptionName.{OptionName}
 use Rattle.surface_words.specs.declared.options.OptionName.TheVariants.{Workers, Seed, Until, Samples, Limit, Inputs, Number, Seeds, First, Quota, Slots, Report}
 
 abbrev pub commands_of : Program → List Command
-commands_of program.Surface = Check ∷ Print ∷ Run ∷ Compile ∷ Value ∷ Gen ∷ Stress ∷ Ensemble ∷ Bench ∷ []
+commands_of program.Surface = Check ∷ Print ∷ Run ∷ Compile ∷ Value ∷ Gen ∷ Stress ∷ Ensemble ∷ Bench ∷ Compact ∷ []
 commands_of program.Watch = []
 
 abbrev pub command_text : Command → List ℕ
@@ -26,6 +26,7 @@ command_text Gen = codes "gen"
 command_text Stress = codes "stress"
 command_text Ensemble = codes "ensemble"
 command_text Bench = codes "bench"
+command_text Compact = codes "compact"
 
 -- the command of a program that a word names
 abbrev pub command_of : Program → List ℕ → Option Command
@@ -68,6 +69,7 @@ options_of Gen = Number ∷ []
 options_of Stress = Workers ∷ Number ∷ []
 options_of Ensemble = Workers ∷ Until ∷ Limit ∷ Seeds ∷ First ∷ []
 options_of Bench = []
+options_of Compact = Inputs ∷ []
 
 abbrev pub has_option : Command → OptionName → Bool
 has_option command option = is_among option (options_of command)

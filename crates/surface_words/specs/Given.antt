@@ -3,7 +3,7 @@ use Rattle.std.specs.Prelude.{ℕ, Bool, false, not, ◌&&◌, List, Option, Som
 use Rattle.std.specs.List.{list_all}
 use Rattle.std.specs.Option.{option_map, option_and_then}
 use Rattle.surface_words.specs.declared.commands.Command.{Command}
-use Rattle.surface_words.specs.declared.commands.Command.TheVariants.{Check, Print, Run, Compile, Value, Gen, Stress, Ensemble, Bench}
+use Rattle.surface_words.specs.declared.commands.Command.TheVariants.{Check, Print, Run, Compile, Value, Gen, Stress, Ensemble, Bench, Compact}
 use Rattle.surface_words.specs.declared.given.Given.{Given}
 use Rattle.surface_words.specs.declared.options.OptionName.{OptionName}
 use Rattle.surface_words.specs.declared.options.OptionName.TheVariants.{Workers, Seed, Until, Samples, Limit, Inputs, Number, Seeds, First, Quota, Slots, Report}
@@ -61,6 +61,7 @@ words_by Gen given = variant.Gen (unwrap_or given.number 0)
 words_by Stress given = variant.Stress (unwrap_or given.workers 1) (unwrap_or given.number 0)
 words_by Ensemble given = variant.Ensemble (unwrap_or given.workers 1) (unwrap_or given.seeds 10) (unwrap_or given.first 0) given.until (unwrap_or given.limit 1000000)
 words_by Bench given = variant.Bench
+words_by Compact given = variant.Compact given.inputs
 
 -- the values that pairs give, where the first pair's value has the index `at`
 abbrev pub given_by : ℕ → List Pair → Given

@@ -3,7 +3,7 @@ use Rattle.std.specs.Prelude.{ℕ, Bool, true, false, ◌+◌, ◌^◌, ◌<◌,
 use Rattle.std.specs.Option.{option_map, option_and_then}
 use Rattle.surface_words.specs.declared.commands.Program.{Program}
 use Rattle.surface_words.specs.declared.commands.Command.{Command}
-use Rattle.surface_words.specs.declared.commands.Command.TheVariants.{Check, Print, Run, Compile, Value, Gen, Stress, Ensemble, Bench}
+use Rattle.surface_words.specs.declared.commands.Command.TheVariants.{Check, Print, Run, Compile, Value, Gen, Stress, Ensemble, Bench, Compact}
 use Rattle.surface_words.specs.declared.options.OptionName.{OptionName}
 use Rattle.surface_words.specs.declared.options.OptionName.TheVariants.{Workers, Seed, Until, Samples, Limit, Inputs, Number, Seeds, First, Quota, Slots, Report}
 use Rattle.surface_words.specs.declared.words.Words.{Words}
@@ -53,6 +53,7 @@ words_of Ensemble pairs = variant.Ensemble
     (number_given Until pairs)
     (unwrap_or (number_given Limit pairs) 1000000)
 words_of Bench pairs = variant.Bench
+words_of Compact pairs = variant.Compact (index_given Inputs 2 pairs)
 
 -- what a list of words spells, whether it is accepted or not
 abbrev pub spelled_words : Program → List (List ℕ) → Option Words
@@ -74,6 +75,7 @@ reads (variant.Gen number) = false
 reads (variant.Stress workers number) = false
 reads (variant.Ensemble workers seeds first until limit) = true
 reads variant.Bench = true
+reads (variant.Compact inputs) = true
 
 -- the bounds of a run
 pub record IsRunInRange (workers : ℕ) (until : Option ℕ) (samples limit quota slots : ℕ) : Type 0 where
@@ -113,3 +115,4 @@ IsInRange count (variant.Gen number) = number ≤ 1000000000
 IsInRange count (variant.Stress workers number) = IsStressInRange workers number
 IsInRange count (variant.Ensemble workers seeds first until limit) = IsEnsembleInRange workers seeds until limit
 IsInRange count variant.Bench = Unit {0}
+IsInRange count (variant.Compact inputs) = IfSome inputs (λ index. index < count)

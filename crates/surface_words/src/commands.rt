@@ -23,6 +23,7 @@ pub(crate) enum Command {
     Stress,
     Ensemble,
     Bench,
+    Compact,
 }
 
 impl Command {
@@ -41,6 +42,7 @@ impl Command {
                 "stress" => Some(Command::Stress),
                 "ensemble" => Some(Command::Ensemble),
                 "bench" => Some(Command::Bench),
+                "compact" => Some(Command::Compact),
                 _ => None,
             },
             Program::Watch => None,
@@ -64,7 +66,9 @@ impl Command {
                 OptionName::Inputs | OptionName::Number | OptionName::Seeds | OptionName::First =>
                     false,
             },
-            Command::Compile | Command::Value => matches!(option, OptionName::Inputs),
+            Command::Compile | Command::Value | Command::Compact => {
+                matches!(option, OptionName::Inputs)
+            }
             Command::Gen => matches!(option, OptionName::Number),
             Command::Stress => matches!(option, OptionName::Workers | OptionName::Number),
             Command::Ensemble => match option {

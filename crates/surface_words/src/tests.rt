@@ -78,6 +78,7 @@ fn accepted_words(rt: HostRuntime) -> Result<(), Fail> {
             ensemble(1_000, 18_446_744_073_709_551_615, Some(2_000_000), 7),
         ),
         ("bench", Words::Bench),
+        ("compact --inputs 10", Words::Compact { inputs: Some(2) }),
     ] {
         assert_eq!(rt; read(rt.alloc(), line, Program::Surface)?, Ok(words));
         assert!(rt; words.reads());
@@ -161,6 +162,7 @@ fn the_first_wrong_word_is_named(rt: HostRuntime) -> Result<(), Fail> {
         ("ensemble --first 18446744073709551616", 2),
         ("ensemble --first 0 --samples 1", 3),
         ("bench --inputs 1", 1),
+        ("compact --inputs 12", 2),
         ("run --workers 2 --workers 2", 3),
         ("run --workers 2 --seed", 4),
         ("run --workers 2 --seed x y", 4),

@@ -63,6 +63,10 @@ pub enum Words {
         limit: u64,
     },
     Bench,
+    Compact {
+        /// As for `Compile`.
+        inputs: Option<usize>,
+    },
 }
 
 impl Words {
@@ -104,6 +108,9 @@ impl Words {
                 limit: given.limit.unwrap_or(1_000_000),
             },
             Command::Bench => Words::Bench,
+            Command::Compact => Words::Compact {
+                inputs: given.inputs,
+            },
         }
     }
 
@@ -142,7 +149,8 @@ impl Words {
             | Words::Compile { .. }
             | Words::Value { .. }
             | Words::Ensemble { .. }
-            | Words::Bench => true,
+            | Words::Bench
+            | Words::Compact { .. } => true,
             Words::Gen { .. } | Words::Stress { .. } => false,
         }
     }

@@ -4,6 +4,7 @@ use Rattle.manifest_read.specs.Manifest.{manifest_of}
 use Rattle.surface_top.specs.declared.call.ManifestJob.{ManifestJob}
 use Rattle.surface_top.specs.declared.call.ManifestJob.TheVariants as job
 use Rattle.surface_top.specs.Answer.{by_manifest, by_circuit, compile_answer, value_answer}
+use Rattle.surface_top.specs.declared.answers.LayoutKind.TheVariants as on
 use Rattle.surface_top.specs.Ending.{Answered, manifest_answer}
 use Rattle.surface_top.specs.Kept.{Asked, run_by, run_read, Leaves}
 use Rattle.surface_top.proofs.Leaving.{none_read}
@@ -11,8 +12,13 @@ use Rattle.surface_top.proofs.call.answer_text.Goals as goal
 
 pub returns-in-Compile-clause-answered : goal.returns-in-Compile-clause-answered
 returns-in-Compile-clause-answered g c =
-    rw c.in-Compile.is (subst (λ (word : List ℕ). Answered (by_circuit (compile_answer word) (circuit_in c.args.text.now)) c.answer_circuit.result (g.O.Sink.written c.args.out.now) (g.O.Sink.written c.answer_circuit.new.out) (g.O.Sink.faults c.args.out.now) (g.O.Sink.faults c.answer_circuit.new.out))
+    rw c.in-Compile.is (subst (λ (word : List ℕ). Answered (by_circuit (compile_answer on.Closed word) (circuit_in c.args.text.now)) c.answer_circuit.result (g.O.Sink.written c.args.out.now) (g.O.Sink.written c.answer_circuit.new.out) (g.O.Sink.faults c.args.out.now) (g.O.Sink.faults c.answer_circuit.new.out))
     c.inputs.ensures c.answer_circuit.ensures)
+
+pub returns-in-Compact-clause-answered : goal.returns-in-Compact-clause-answered
+returns-in-Compact-clause-answered g c =
+    rw c.in-Compact.is (subst (λ (word : List ℕ). Answered (by_circuit (compile_answer on.Compact word) (circuit_in c.args.text.now)) c.answer_circuit-in-Compact.result (g.O.Sink.written c.args.out.now) (g.O.Sink.written c.answer_circuit-in-Compact.new.out) (g.O.Sink.faults c.args.out.now) (g.O.Sink.faults c.answer_circuit-in-Compact.new.out))
+    c.inputs-in-Compact.ensures c.answer_circuit-in-Compact.ensures)
 
 pub returns-in-Value-clause-answered : goal.returns-in-Value-clause-answered
 returns-in-Value-clause-answered g c =
