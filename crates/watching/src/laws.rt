@@ -14,6 +14,8 @@ ghost use Rattle.trace_text.specs.Lines.{counts_of};
 ghost use Rattle.frames.specs.States.{after};
 ghost use Rattle.watching.specs.Changes.{changes_of, state_after};
 
+use crate::publisher::Publisher;
+
 /// The state after the changes that the next events of a surface make is that of the surface after these events.
 pub fn changes_lead_to_the_surface()
     ensures { (n : Network) (until kinds : ℕ) (sites : List TheSite) (es : List TheEvent) → All (LeavesWithin kinds) n.rules → length sites ≡ n.lattice.rows * n.lattice.cols → All (λ s. s.species.0 < kinds) sites → AreNext n until sites es
@@ -27,3 +29,17 @@ pub fn viewers_see_the_surface()
         → AreNext n until first es → 1 ≤ frames → All (IsDone (counts_of first kinds) (changes_of n.lattice n.rules first es) frames) viewers → AreViews n kinds (length viewers) frames first es (map (λ v. v.samples) viewers) }
     ensures wide { (start : List ℕ) (changes : List TheChange) (frames kinds : ℕ) (v : TheViewer) → length start ≡ kinds → IsDone start changes frames v → All (λ s. length s.counts ≡ kinds) v.samples }
 {}
+
+/// A value that may go to another thread.
+fn needs_send<T: Send>(value: T) -> T
+    ensures { result ≡ value }
+{
+    value
+}
+
+/// A publisher may go to another thread.
+pub fn a_publisher_is_sent(publisher: Publisher) -> Publisher
+    ensures { result ≡ publisher }
+{
+    needs_send(publisher)
+}
