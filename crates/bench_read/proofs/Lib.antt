@@ -16,6 +16,5 @@ pub mod Resolving
 pub mod Sound
 pub mod TextSound
 pub mod Ends
-pub mod PieceTexts
 pub mod LineTexts
 pub mod Building

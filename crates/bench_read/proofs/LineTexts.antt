@@ -1,11 +1,11 @@
 -- The text of lines, one after the other.
 use Rattle.std.proofs.Common.{◌≡◌, ℕ, zero, suc, ◌+◌, ◌<◌, List, [], ◌∷◌, ◌++◌, length, map, take, drop, get_or, Some, None, refl, sym, ap, ◌∙◌, arith, decimal, codes, append_assoc}
 use Rattle.std.proofs.lemmas.Grind.{flat_map-append}
+use Rattle.surf_text.proofs.LawLemmas.{parts-more, parts-within}
 use Rattle.circuit_text.specs.declared.kinds.GateOp.{GateOp}
 use Rattle.circuit_text.specs.declared.kinds.Net.{Net}
 use Rattle.circuit_text.specs.declared.kinds.Net.TheVariants as net
 use Rattle.bench_read.specs.Chains.{op_word, net_line, net_lines, output_line, ended_lines, text_by}
-use Rattle.bench_read.proofs.PieceTexts.{parts-more, parts-within}
 
 -- the lines before one, and this line
 pub lines-more : (lines : List (List ℕ)) (i : ℕ) (line : List ℕ) → i < length lines → line ≡ get_or lines i [] → ended_lines (take i lines) ++ (line ++ 10 ∷ []) ≡ ended_lines (take (i + 1) lines)

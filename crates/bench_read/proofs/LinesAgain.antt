@@ -4,6 +4,8 @@ use Rattle.std.specs.List.{list_all}
 use Rattle.std.proofs.lemmas.Bool.{and_from, not_from_false}
 use Rattle.surf_text.specs.Lines.{trimmed}
 use Rattle.surf_text.specs.Cuts.{cut_at, words_of}
+use Rattle.surf_text.specs.Passing.{Each, lacks, inked, begins, ends}
+use Rattle.surf_text.proofs.LawLemmas.{each-append, cut-front, cut-missing, word-first, word-last, begins-append, ends-append, inked-ends, trimmed-same, trimmed-behind}
 use Rattle.circuit_text.specs.declared.kinds.GateOp.{GateOp}
 use Rattle.circuit_text.specs.declared.kinds.GateOp.TheVariants.{And, Or, Xor, Nand, Nor, Xnor, Not, Buf}
 use Rattle.circuit_text.specs.declared.kinds.Net.{Net}
@@ -12,7 +14,7 @@ use Rattle.circuit_text.specs.Names.{Name, is_name_byte, is_name, are_names}
 use Rattle.circuit_text.specs.Values.{has_two}
 use Rattle.circuit_text.specs.Lines.{LineSort, Inputs, Outputs, OneGate, TwoGate, Formless, op_of, one_operand, two_operands, gate_of, plain_of, sort_by, before_comment, bare_line, sort_of}
 use Rattle.bench_read.specs.Chains.{net_name, op_word, second_text, net_line, output_line}
-use Rattle.bench_read.proofs.Bytes.{Each, lacks, inked, each-append, cut-front, cut-missing, word-first, word-last, words-behind, begins, ends, begins-append, ends-append, inked-ends, trimmed-same, trimmed-behind, decimal-inked, decimal-name, decimal-unended, decimal-uncommented, decimal-uncut}
+use Rattle.bench_read.proofs.Bytes.{decimal-inked, decimal-name, decimal-unended, decimal-uncommented, decimal-uncut}
 
 -- Names
 
@@ -130,7 +132,7 @@ gate-words n a b op l h g =
     sort-same line (line-clean 35 decimal-uncommented refl n a b op l h g refl (op-clean op).1) refl (gate-ends n a b op h g)
     ∙ ap (sort_by line) cut
     ∙ ap (λ name. gate_of name (words_of (32 ∷ tail))) (trimmed-behind (net_name n) refl (name-ends n l))
-    ∙ ap (gate_of (net_name n)) (words-behind tail ∙ op-words op (behind_op a b))
+    ∙ ap (gate_of (net_name n)) (op-words op (behind_op a b))
 
 pub one-sort : (n a : ℕ) (op : GateOp) → n < 2 ^ 64 → a < 2 ^ 64 → has_two op ≡ false → sort_of (net_line n (net.Gate op a None)) ≡ OneGate (net_name n) op (net_name a)
 one-sort n a op l h one =

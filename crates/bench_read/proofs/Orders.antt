@@ -7,25 +7,11 @@ use Rattle.std.proofs.lemmas.List.Sums.{position_or_len_is, prefix_len-le-length
 use Rattle.std.proofs.lemmas.List.FromFn.{get_or-range_with_len, length-range_with_len}
 use Rattle.std.proofs.lemmas.Bool.{ltb-true, and_parts, and_from, not-true, not_from_false, false≢true}
 use Rattle.std.proofs.lemmas.Bool.Decides.{nat_tests}
+use Rattle.species.proofs.LawLemmas.{list_any-position}
 use Rattle.bench_read.specs.Order.{Item, is_input, operands_at, item_at, is_placed, is_ready, next_of, place_of, inputs_of, first_unplaced}
 
--- what a test finds in a list, and where
-any_position : {X : Type 0} (p : X → Bool) (xs : List X) → list_any p xs ≡ nat_lt (position_or_len p xs) (length xs)
-any_position p [] = refl
-any_position p (x ∷ xs) =
-    elim (p x) as (λ b. (b || list_any p xs) ≡ nat_lt (cond (not b) (1 + position_or_len p xs) 0) (suc (length xs))) [
-      | true ↦ first (length xs)
-      | false ↦ any_position p xs ∙ below (position_or_len p xs) (length xs)
-    ]
-  where
-    first : (n : ℕ) → true ≡ nat_lt 0 (suc n)
-    first n = grind (arith, nat_tests)
-
-    below : (m n : ℕ) → nat_lt m n ≡ nat_lt (1 + m) (suc n)
-    below m n = grind (arith, nat_tests)
-
 pub placed-place : (order : List ℕ) (d : ℕ) → is_placed order d ≡ nat_lt (place_of order d) (length order)
-placed-place order d = any_position (λ e. e == d) order
+placed-place order d = list_any-position (λ e. e == d) order
 
 pub place-within : (order : List ℕ) (d : ℕ) → is_placed order d ≡ true → place_of order d < length order
 place-within order d h = ltb-true (place_of order d) (length order) (sym (placed-place order d) ∙ h)

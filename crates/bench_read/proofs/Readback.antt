@@ -11,7 +11,8 @@ use Rattle.std.proofs.lemmas.List.Sums.{position_or_len_is}
 use Rattle.std.proofs.lemmas.Grind.{flat_map-append}
 use Rattle.std.proofs.lemmas.List.FromFn.{length-map-range_with_len, get_or-map-range_with_len, map-range_with_len_more}
 use Rattle.surf_text.specs.Lines.{lines_of}
-use Rattle.surf_text.proofs.LawLemmas.{decimal-value}
+use Rattle.surf_text.specs.Passing.{Each, lacks}
+use Rattle.surf_text.proofs.LawLemmas.{decimal-value, line-first}
 use Rattle.species.specs.Texts.{is_in, index_of}
 use Rattle.species.proofs.LawLemmas.{is_in-index}
 use Rattle.circuit_text.specs.declared.kinds.GateOp.{GateOp}
@@ -25,7 +26,6 @@ use Rattle.circuit_text.specs.Values.{has_two, input_count}
 use Rattle.circuit_text.specs.Lines.{LineSort, Inputs, Outputs, OneGate, TwoGate, sort_of}
 use Rattle.circuit_text.specs.Circuits.{NetList, defines, defined, puts_out, put_out, nets_in, nets_of, or_many, line_fault, fault_at, circuit_of, unless, at_end, outcome, circuit_in}
 use Rattle.bench_read.specs.Chains.{net_name, net_line, output_line, net_lines, ended_lines, text_by}
-use Rattle.bench_read.proofs.Bytes.{Each, lacks, line-first}
 use Rattle.bench_read.proofs.LinesAgain.{IsSmall, input-sort, output-sort, one-sort, two-sort, input-unended, output-unended, gate-unended}
 
 -- Names

@@ -20,7 +20,7 @@ use Rattle.bench_read.specs.Passes.{defines, puts_out, uses, gate_nets, net_coun
 use Rattle.bench_read.specs.Order.{Item, InputNet, GateNet, items_in, lines_from, operands_at, item_at}
 use Rattle.bench_read.specs.Netlists.{HasArity}
 use Rattle.bench_read.specs.Placing.{AreWithin}
-use Rattle.bench_read.proofs.NameLists.{within}
+use Rattle.species.proofs.LawLemmas.{index-within}
 
 -- How many items there are
 
@@ -61,7 +61,7 @@ numbers-within : (names : List Name) (operands : List Name) → list_all (is_in 
 numbers-within names [] h = tt
 numbers-within names (x ∷ operands) h =
     let p = and_parts (is_in names x) (list_all (is_in names) operands) h in
-    (within names x p.0, numbers-within names operands p.1)
+    (index-within names x p.0, numbers-within names operands p.1)
 
 abbrev pub AreBelow : ℕ → Item → Type 0
 AreBelow count item = AllByRecursion (λ y. y < count) (operands_at item)

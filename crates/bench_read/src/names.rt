@@ -1,6 +1,6 @@
 //! Names of nets and their numbers.
 
-ghost use Rattle.std.specs.Prelude.{◌≡◌, ◌<◌, ◌∷◌, ◌++◌, [], length, IfSome, OnSome, IfNone, OnOk, true, false};
+ghost use Rattle.std.specs.Prelude.{◌≡◌, ◌<◌, ◌≤◌, ◌∷◌, ◌++◌, [], length, IfSome, OnSome, IfNone, OnOk, true, false};
 
 use indexmap::IndexSet;
 use std::alloc::Global;
@@ -50,6 +50,19 @@ impl<'a> NameTable<'a> {
         match self.names.get_index_of(name) {
             Some(index) => Some(index),
             None => None,
+        }
+    }
+
+    /// The number of a name that is in the list.
+    pub(crate) fn number(&self, name: &[u8]) -> u32
+        requires few { length self.now ≤ 65536 }
+        requires known { is_in self.now name.now ≡ true }
+        ensures number { result ≡ index_of self.now name.now }
+        ensures within { result < length self.now }
+    {
+        match self.find(name) {
+            Some(index) => index as u32,
+            None => unreachable!(),
         }
     }
 

@@ -1,6 +1,6 @@
 //! The operands between the brackets of a gate.
 
-ghost use Rattle.std.specs.Prelude.{◌≡◌, ◌<◌, ◌≤◌, ◌+◌, ◌↔◌, ◌∷◌, [], length, map, IsNone, IfNone, IfSome, IfOk, true};
+ghost use Rattle.std.specs.Prelude.{◌≡◌, ◌≤◌, ◌+◌, ◌↔◌, ◌∷◌, [], length, map, IsNone, IfNone, IfSome, IfOk, true};
 ghost use Rattle.std.specs.List.{list_all};
 ghost use Rattle.species.specs.Texts.{is_in, index_of};
 ghost use Rattle.bench_read.specs.Lines.{is_name, operands_of};
@@ -96,19 +96,6 @@ pub(crate) fn are_known(names: &NameTable<'_>, inside: &[u8]) -> bool
     true
 }
 
-/// The number of a name that is in the list.
-pub(crate) fn number_of(names: &NameTable<'_>, name: &[u8]) -> u32
-    requires few { length names.now ≤ 65536 }
-    requires known { is_in names.now name.now ≡ true }
-    ensures number { result ≡ index_of names.now name.now }
-    ensures within { result < length names.now }
-{
-    match names.find(name) {
-        Some(index) => index as u32,
-        None => unreachable!(),
-    }
-}
-
 /// The numbers of operands that are in the list.
 pub(crate) fn operand_numbers(
     alloc: Global,
@@ -122,7 +109,7 @@ pub(crate) fn operand_numbers(
     let mut numbers = Vec::new(alloc);
     let mut operands = Operands::new(inside);
     while let Some(operand) = operands.next_operand() {
-        numbers.push(number_of(names, operand))?;
+        numbers.push(names.number(operand))?;
     }
     Ok(numbers)
 }

@@ -15,7 +15,7 @@ ghost use Rattle.bench_read.specs.declared.fault.BenchError.TheVariants.{Fault};
 use crate::fault::{BenchError, BenchKind};
 use crate::first::Refusal;
 use crate::names::NameTable;
-use crate::operands::{are_known, number_of, operand_numbers};
+use crate::operands::{are_known, operand_numbers};
 use crate::sort::{Sort, sort_line};
 use circuit_text::GateOp;
 use std::alloc::Global;
@@ -70,7 +70,7 @@ impl Resolved {
         if !names.has(name) {
             return Err(Refusal::Kind(BenchKind::UnknownNet));
         }
-        let Ok(()) = self.outputs.push(number_of(names, name)) else {
+        let Ok(()) = self.outputs.push(names.number(name)) else {
             return Err(Refusal::Memory);
         };
         Ok(())

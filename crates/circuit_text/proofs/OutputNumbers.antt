@@ -3,10 +3,10 @@ use Rattle.std.proofs.Common.{◌≡◌, ℕ, zero, suc, ◌+◌, ◌<◌, ◌�
 use Rattle.std.proofs.Math.Seq.{drop-cons}
 use Rattle.std.proofs.lemmas.List.{append-nil, length-map, drop_all}
 use Rattle.std.specs.List.{list_all}
-use Rattle.std.proofs.lemmas.Bool.{and_parts, ltb-true}
+use Rattle.std.proofs.lemmas.Bool.{and_parts}
 use Rattle.species.specs.Texts.{is_in, index_of}
 use Rattle.circuit_text.specs.Names.{Name}
-use Rattle.species.proofs.LawLemmas.{is_in-index}
+use Rattle.species.proofs.LawLemmas.{index-within}
 
 module _ {X : Type 0} (read : X → Name) (names : List Name) where
   cut : (xs : List X) (i : ℕ) (d : X) → i < length xs → drop i xs ≡ get_or xs i d ∷ drop (i + 1) xs
@@ -34,7 +34,7 @@ module _ {X : Type 0} (read : X → Name) (names : List Name) where
 places_within : (names xs : List Name) → list_all (is_in names) xs ≡ true → (i : ℕ) → i < length xs → get_or (map (index_of names) xs) i 0 < length names
 places_within names [] h i lt = absurd (omega arith)
 places_within names (x ∷ xs) h zero lt =
-    ltb-true (index_of names x) (length names) (sym (is_in-index names x) ∙ (and_parts (is_in names x) (list_all (is_in names) xs) h).0)
+    index-within names x (and_parts (is_in names x) (list_all (is_in names) xs) h).0
 places_within names (x ∷ xs) h (suc i) lt = places_within names xs (and_parts (is_in names x) (list_all (is_in names) xs) h).1 i (omega (arith, lt))
 
 pub numbers_within : (names xs : List Name) (numbers : List ℕ) → list_all (is_in names) xs ≡ true → numbers ≡ map (index_of names) xs

@@ -22,7 +22,7 @@ module _ {X Y : Type 0} (f : X → Y) (p : Y → Bool) where
   list_any-map (x ∷ xs) = ap (λ b. p (f x) || b) (list_any-map xs)
 
 module _ {X : Type 0} (p : X → Bool) where
-  list_any-position : (xs : List X) → list_any p xs ≡ nat_lt (position_or_len p xs) (length xs)
+  pub list_any-position : (xs : List X) → list_any p xs ≡ nat_lt (position_or_len p xs) (length xs)
   list_any-position [] = refl
   list_any-position (x ∷ xs) =
       elim (p x) as (λ b. (b || list_any p xs) ≡ nat_lt (cond (not b) (1 + position_or_len p xs) 0) (suc (length xs))) [

@@ -7,6 +7,9 @@ use Rattle.surf_text.specs.Lines.{is_blank}
 use Rattle.surf_text.specs.Cuts.{cut_where, is_word, words_of}
 pub use Rattle.surf_text.proofs.Places.{split-cut, pieces_by, cut-shorter_at, blank_ascii}
 pub use Rattle.surf_text.proofs.Trims.{front-blank, front-other}
+pub use Rattle.surf_text.proofs.Passing.{each-append, each-weaker, cut-front, cut-missing, line-first, split-first, split-one, word-first, word-last}
+pub use Rattle.surf_text.proofs.Ends.{begins-append, ends-append, inked-ends, front-same, trimmed-same, trimmed-behind}
+pub use Rattle.surf_text.proofs.PartTexts.{parts-more, parts-within}
 pub use Rattle.surf_text.proofs.DigitParts.{decimal-digits, decimal-value, number-read, after-append}
 pub use Rattle.surf_text.proofs.Spelling.{decimal-complete}
 

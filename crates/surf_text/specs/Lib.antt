@@ -3,3 +3,4 @@ pub mod Cuts
 pub mod Numbers
 pub mod Decimals
 pub mod Grammar
+pub mod Passing

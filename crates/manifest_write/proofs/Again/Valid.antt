@@ -13,8 +13,7 @@ use Rattle.std.proofs.lemmas.Slice.Eq.{bytes_eq-Decides}
 use Rattle.std.proofs.lemmas.Str.{IsUtf8-from_is_utf8, IsUtf8-drop, IsCharBoundary-from_take}
 use Rattle.surf_text.specs.Lines.{is_feed, lines_of}
 use Rattle.surf_text.specs.Numbers.{is_number, u64_of}
-use Rattle.manifest_read.specs.declared.section.Section.TheVariants.{Surface}
-use Rattle.manifest_read.specs.declared.section.Opened.{Opened}
+use Rattle.surf_text.specs.Passing.{Each, lacks}
 use Rattle.manifest_read.specs.declared.text.Setting.{Setting}
 use Rattle.manifest_read.specs.declared.fault.ManifestFault.{ManifestFault}
 use Rattle.manifest_read.specs.declared.fault.ManifestKind.TheVariants.{NotUtf8}
@@ -22,11 +21,10 @@ use Rattle.manifest_read.specs.declared.manifest.Manifest.{Manifest}
 use Rattle.manifest_read.specs.Rules.{names_of_rule}
 use Rattle.manifest_read.specs.Settings.{is_seed, seed_in, is_other, last_or, setting_values}
 use Rattle.manifest_read.specs.Sorts.{sort_of}
-use Rattle.manifest_read.specs.Manifest.{Line, Content, content_of, fault, unless, open_of, was_started, verdict, end_verdict_of, end_verdict, unmarked, outcome, manifest_by, IsValid}
+use Rattle.manifest_read.specs.Manifest.{Line, Content, content_of, fault, unless, verdict, end_verdict, unmarked, outcome, manifest_by, IsValid}
 use Rattle.manifest_read.specs.Steps.{state_after}
 use Rattle.manifest_read.specs.Limits.{IsAccepted, IsWithin}
 use Rattle.manifest_read.proofs.LawLemmas.{accepted-within, accepted-size, content_of-more, fault-is, listed-both, few-seen, manifest-sound}
-use Rattle.manifest_write.proofs.Cutting.Bytes.{Each, lacks}
 use Rattle.manifest_write.proofs.Cutting.Parted.{utf8-parted, lines-parted}
 use Rattle.manifest_write.proofs.Contents.Fits.{IsClean, FitsSetting}
 use Rattle.manifest_write.proofs.Contents.Blocks.{AreNew}

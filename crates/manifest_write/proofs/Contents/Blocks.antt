@@ -8,6 +8,7 @@ use Rattle.std.proofs.lemmas.Bool.{lt-leb}
 use Rattle.std.proofs.lemmas.List.{map-append}
 use Rattle.std.proofs.lemmas.List.Sums.{fold-append}
 use Rattle.surf_text.specs.Cuts.{words_of}
+use Rattle.surf_text.specs.Passing.{begins}
 use Rattle.species.specs.Names.{with_name}
 use Rattle.surface_rows.specs.Rows.{spaced}
 use Rattle.manifest_read.specs.declared.section.Section.TheVariants.{Rules, Surface, Colours}
@@ -19,7 +20,6 @@ use Rattle.manifest_read.specs.Settings.{setting_fault, value_fault}
 use Rattle.manifest_read.specs.Manifest.{Entry, SettingEntry, RuleEntry, RowEntry, ColourEntry, entry_of, Content, names_fault, words_fault, rule_fault}
 use Rattle.manifest_read.specs.Steps.{with_setting, with_rule, with_row, with_colour}
 use Rattle.manifest_write.specs.Canon.{setting_line}
-use Rattle.manifest_write.proofs.Cutting.Tight.{begins}
 use Rattle.manifest_write.proofs.Contents.Fits.{FitsName, FitsRule, FitsSetting, FitsColour}
 use Rattle.manifest_write.proofs.Lines.LineSorts.{setting-sort, setting-read, setting-some, colour-sort, row-sort, row-words, row-some}
 use Rattle.manifest_write.proofs.Lines.RuleLines.{named_line, rule-read, rule-bare, rule-sort}

@@ -5,6 +5,7 @@ use Rattle.std.proofs.lemmas.Bool.{or_parts, not-true}
 use Rattle.lattice.specs.declared.grid.Kind.{Kind}
 use Rattle.lattice.specs.declared.grid.Kind.TheVariants.{Square, Hex}
 use Rattle.surf_text.specs.Numbers.{u64_of}
+use Rattle.surf_text.specs.Passing.{Each, lacks, begins}
 use Rattle.rates.specs.Durations.{duration_of}
 use Rattle.manifest_read.specs.declared.manifest.Manifest.{Manifest}
 use Rattle.manifest_read.specs.declared.text.Setting.{Setting}
@@ -13,8 +14,6 @@ use Rattle.manifest_read.specs.Rules.{names_of_rule}
 use Rattle.manifest_read.specs.Settings.{is_seed, is_duration, is_lattice, is_wrap, kind_of, wrap_of, seed_in, duration_in, kind_in, wrap_in, is_other, last_or, SettingValues, setting_values, value_fault, kind_text, bool_text}
 use Rattle.manifest_read.specs.Manifest.{Content}
 use Rattle.manifest_write.specs.Canon.{duration_text, value_text, setting_line, read_setting_lines}
-use Rattle.manifest_write.proofs.Cutting.Bytes.{Each, lacks}
-use Rattle.manifest_write.proofs.Cutting.Tight.{begins}
 use Rattle.manifest_write.proofs.Spellings.Numbers.{decimal-digits, decimal-tight, digits-lack, number-read, duration-read, duration-lacks, duration-tight}
 use Rattle.manifest_write.proofs.Contents.Fits.{IsClean, IsBare, is_plain, FitsName, FitsRule, FitsSetting, FitsColour}
 use Rattle.manifest_write.proofs.Lines.Clean.{clean-low, clean-decimal, clean-duration}

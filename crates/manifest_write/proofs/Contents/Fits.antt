@@ -2,11 +2,11 @@
 use Rattle.std.proofs.Common.{◌≡◌, ℕ, ◌==◌, ◌⊎◌, Bool, true, not, List, [], ◌∷◌}
 use Rattle.std.specs.List.{AllByRecursion}
 use Rattle.std.specs.Str.{IsUtf8}
+use Rattle.surf_text.specs.Passing.{Each, lacks}
 use Rattle.surf_kinds.specs.Rates.{Fraction, IsReduced}
 use Rattle.manifest_read.specs.declared.text.Setting.{Setting}
 use Rattle.manifest_read.specs.Names.{is_name}
 use Rattle.manifest_read.specs.Rules.{NamedRule, NamedOne, NamedTwo, names_of_rule}
-use Rattle.manifest_write.proofs.Cutting.Bytes.{Each, lacks}
 use Rattle.manifest_write.proofs.Cutting.Tight.{IsTight}
 
 -- UTF-8 without a line feed

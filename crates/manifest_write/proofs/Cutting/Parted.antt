@@ -10,9 +10,10 @@ use Rattle.std.proofs.lemmas.List.{length-append}
 use Rattle.std.proofs.lemmas.Str.{IsUtf8-take, IsUtf8-drop, IsCharBoundary-before_ascii, IsCharBoundary-after_ascii}
 use Rattle.surf_text.specs.Lines.{is_blank, is_feed, trim_front, trim_back, onto_trimmed, trimmed, lines_of}
 use Rattle.surf_text.specs.Cuts.{cut_at, with_front, is_word, words_of}
+use Rattle.surf_text.specs.Passing.{Each}
 use Rattle.surf_text.proofs.LawLemmas.{blank_ascii}
 use Rattle.manifest_read.specs.Names.{cut_arrow}
-use Rattle.manifest_write.proofs.Cutting.Bytes.{Each, each-parts, cut-parts}
+use Rattle.manifest_write.proofs.Cutting.Bytes.{each-parts, cut-parts}
 
 -- it holds of what stands before a byte of ASCII, and of what stands after it
 abbrev pub Parted : (List ℕ → Type 0) → Type 0

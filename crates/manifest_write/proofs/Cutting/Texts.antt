@@ -5,8 +5,8 @@ use Rattle.std.specs.Str.{IsUtf8}
 use Rattle.std.proofs.lemmas.Bool.{and_parts, not-true}
 use Rattle.std.proofs.lemmas.Str.{IsUtf8-append, IsUtf8-nil}
 use Rattle.surf_text.specs.Lines.{lines_of}
+use Rattle.surf_text.specs.Passing.{Each, lacks}
 use Rattle.surface_rows.specs.Rows.{lines_text}
-use Rattle.manifest_write.proofs.Cutting.Bytes.{Each, lacks}
 use Rattle.manifest_write.proofs.Contents.Fits.{IsClean}
 use Rattle.manifest_write.proofs.Lines.Clean.{ascii-utf8}
 

@@ -1,71 +1,29 @@
 -- Texts that trimming leaves as they are.
-use Rattle.std.proofs.Common.{◌≡◌, ℕ, Bool, true, false, cond, not, ◌⊎◌, List, [], ◌∷◌, ◌++◌, refl, ap, ◌∙◌, inl, inr}
+use Rattle.std.proofs.Common.{◌≡◌, ℕ, Bool, true, false, cond, ◌⊎◌, List, [], ◌∷◌, ◌++◌, refl, ap, ◌∙◌, inl, inr}
 use Rattle.std.specs.List.{list_all}
-use Rattle.std.proofs.lemmas.Bool.{not-true, not_from_false, and_parts}
+use Rattle.std.proofs.lemmas.Bool.{not_from_false, and_parts}
 use Rattle.surf_text.specs.Lines.{is_blank, trim_front, trim_back, onto_trimmed, trimmed}
-use Rattle.surf_text.proofs.LawLemmas.{front-other}
-use Rattle.manifest_write.proofs.Cutting.Bytes.{Each}
-
-abbrev pub inked : ℕ → Bool
-inked c = not (is_blank c)
-
--- the first byte is no blank
-abbrev pub begins : List ℕ → Bool
-begins [] = false
-begins (c ∷ cs) = inked c
-
--- the last byte is no blank
-abbrev pub ends : List ℕ → Bool
-ends [] = false
-ends (c ∷ []) = inked c
-ends (c ∷ d ∷ ds) = ends (d ∷ ds)
+use Rattle.surf_text.specs.Passing.{Each, inked, begins, ends}
+use Rattle.surf_text.proofs.LawLemmas.{begins-append, ends-append, inked-ends, trimmed-same, trimmed-behind}
 
 -- neither end is a blank
 pub record IsTight (text : List ℕ) : Type 0 where
   pub front : begins text ≡ true
   pub back : ends text ≡ true
 
-pub begins-append : (xs ys : List ℕ) → begins xs ≡ true → begins (xs ++ ys) ≡ true
-begins-append [] ys h = absurd cc
-begins-append (c ∷ cs) ys h = h
-
-pub ends-append : (xs ys : List ℕ) → ends ys ≡ true → ends (xs ++ ys) ≡ true
-ends-append [] ys h = h
-ends-append (c ∷ []) [] h = absurd cc
-ends-append (c ∷ []) (y ∷ ys) h = h
-ends-append (c ∷ d ∷ ds) ys h = ends-append (d ∷ ds) ys h
-
 pub tight-append : (xs ys : List ℕ) → begins xs ≡ true → ends ys ≡ true → IsTight (xs ++ ys)
 tight-append xs ys h g = record { front = begins-append xs ys h; back = ends-append xs ys g }
 
 -- a text without blanks
 pub inked-tight : (c : ℕ) (cs : List ℕ) → Each inked (c ∷ cs) → IsTight (c ∷ cs)
-inked-tight c cs h = record { front = (and_parts (inked c) (list_all inked cs) h).0; back = last c cs h }
-  where
-    last : (c : ℕ) (cs : List ℕ) → Each inked (c ∷ cs) → ends (c ∷ cs) ≡ true
-    last c [] h = (and_parts (inked c) true h).0
-    last c (d ∷ ds) h = last d ds (and_parts (inked c) (list_all inked (d ∷ ds)) h).1
-
-pub front-same : (text : List ℕ) → begins text ≡ true → trim_front text ≡ text
-front-same [] h = absurd cc
-front-same (c ∷ cs) h = front-other c cs (not-true (is_blank c) h)
-
-back-same : (text : List ℕ) → ends text ≡ true → trim_back text ≡ text
-back-same [] h = absurd cc
-back-same (c ∷ []) h = ap (λ b. cond b [] (c ∷ [])) (not-true (is_blank c) h)
-back-same (c ∷ d ∷ ds) h = ap (onto_trimmed c) (back-same (d ∷ ds) h)
+inked-tight c cs h = record { front = (and_parts (inked c) (list_all inked cs) h).0; back = inked-ends c cs h }
 
 pub tight-trimmed : (text : List ℕ) → IsTight text → trimmed text ≡ text
-tight-trimmed text h = ap trim_back (front-same text h.front) ∙ back-same text h.back
+tight-trimmed text h = trimmed-same text h.front h.back
 
--- the blanks behind such a text go
+-- the blank behind such a text goes
 pub trim-behind : (text : List ℕ) → IsTight text → trimmed (text ++ 32 ∷ []) ≡ text
-trim-behind text h = ap trim_back (front-same (text ++ 32 ∷ []) (begins-append text (32 ∷ []) h.front)) ∙ gone text h.back
-  where
-    gone : (t : List ℕ) → ends t ≡ true → trim_back (t ++ 32 ∷ []) ≡ t
-    gone [] h = absurd cc
-    gone (c ∷ []) h = ap (λ b. cond b [] (c ∷ [])) (not-true (is_blank c) h)
-    gone (c ∷ d ∷ ds) h = ap (onto_trimmed c) (gone (d ∷ ds) h)
+trim-behind text h = trimmed-behind text h.front h.back
 
 -- a trimmed text is empty or tight
 abbrev EmptyOr : (List ℕ → Type 0) → List ℕ → Type 0

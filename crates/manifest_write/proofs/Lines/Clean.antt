@@ -8,11 +8,12 @@ use Rattle.std.proofs.lemmas.Bool.Decides.{nat_tests}
 use Rattle.std.proofs.lemmas.Str.{IsUtf8-append, IsUtf8-from_ascii}
 use Rattle.surf_kinds.specs.Rates.{Fraction, IsReduced}
 use Rattle.surf_text.specs.Numbers.{is_digit, all_digits}
+use Rattle.surf_text.specs.Passing.{Each, lacks}
+use Rattle.surf_text.proofs.LawLemmas.{each-append, each-weaker}
 use Rattle.surface_rows.specs.Rows.{spaced}
 use Rattle.manifest_read.specs.declared.text.Setting.{Setting}
 use Rattle.manifest_read.specs.Rules.{NamedRule, NamedOne, NamedTwo}
 use Rattle.manifest_write.specs.Canon.{without_zeros, six_digits, duration_text, rate_text, value_text, setting_line}
-use Rattle.manifest_write.proofs.Cutting.Bytes.{Each, lacks, each-append, each-weaker}
 use Rattle.manifest_write.proofs.Spellings.Numbers.{decimal-digits, each-digit, part-digits}
 use Rattle.manifest_write.proofs.Contents.Fits.{IsClean, FitsName, FitsRule, FitsSetting}
 use Rattle.manifest_write.proofs.Lines.RuleLines.{named_line}

@@ -1,16 +1,18 @@
 -- What the canonical lines are.
-use Rattle.std.proofs.Common.{◌≡◌, ℕ, ◌==◌, ◌⊎◌, Bool, true, false, cond, not, List, [], ◌∷◌, ◌++◌, Option, None, Some, refl, sym, ap, ◌∙◌, inl, inr, append_assoc, append-nil, codes, filter, length, subst, ne_eqb, arith}
-use Rattle.std.specs.List.{list_all, flat_map, slice_split, onto_first, AllByRecursion}
-use Rattle.std.proofs.lemmas.Bool.{and_parts, not-true, false≢true}
+use Rattle.std.proofs.Common.{◌≡◌, ℕ, ◌==◌, ◌⊎◌, true, false, cond, not, List, [], ◌∷◌, ◌++◌, Option, None, Some, refl, sym, ap, ◌∙◌, inl, inr, append_assoc, append-nil, codes, filter, length, subst, ne_eqb, arith}
+use Rattle.std.specs.List.{flat_map, slice_split, AllByRecursion}
+use Rattle.std.proofs.lemmas.Bool.{not-true, false≢true}
 use Rattle.surf_text.specs.Lines.{is_blank, trim_back, onto_trimmed, trimmed}
 use Rattle.surf_text.specs.Cuts.{cut_at, is_word, words_of}
+use Rattle.surf_text.specs.Passing.{Each, lacks, inked, begins, ends}
+use Rattle.surf_text.proofs.LawLemmas.{each-append, cut-front, cut-missing, begins-append, ends-append, front-same, split-first, split-one}
 use Rattle.surface_rows.specs.Rows.{spaced}
 use Rattle.manifest_read.specs.declared.text.Setting.{Setting}
 use Rattle.manifest_read.specs.Sorts.{Plain, front_of, bare, sorted, section_line, sort_of}
 use Rattle.manifest_read.specs.Settings.{named, by_equals, setting_of}
 use Rattle.manifest_write.specs.Canon.{value_text, setting_line}
-use Rattle.manifest_write.proofs.Cutting.Bytes.{Each, lacks, each-append, cut-front, cut-missing, cut-parts}
-use Rattle.manifest_write.proofs.Cutting.Tight.{inked, begins, ends, begins-append, ends-append, front-same, tight-append, tight-trimmed, trim-behind}
+use Rattle.manifest_write.proofs.Cutting.Bytes.{cut-parts}
+use Rattle.manifest_write.proofs.Cutting.Tight.{tight-append, tight-trimmed, trim-behind}
 use Rattle.manifest_write.proofs.Contents.Fits.{is_plain, IsBare, FitsName, FitsSetting, FitsColour}
 use Rattle.manifest_write.proofs.Spellings.NameTexts.{name-text}
 
@@ -109,19 +111,6 @@ colour-sort (c ∷ cs) h = (bare (c ∷ cs), ap (sorted (bare (c ∷ cs))) whole
     plain = bare-plain c cs h.tight.front h.plain
 
 -- Rows
-
-pub split-first : (test : ℕ → Bool) (xs ys : List ℕ) (c : ℕ) → Each (λ x. not (test x)) xs → test c ≡ true → slice_split test (xs ++ c ∷ ys) ≡ xs ∷ slice_split test ys
-split-first test [] ys c h e = ap (λ b. cond b ([] ∷ slice_split test ys) (onto_first c (slice_split test ys))) e
-split-first test (x ∷ xs) ys c h e =
-    let p = and_parts (not (test x)) (list_all (λ y. not (test y)) xs) h in
-    ap (λ b. cond b ([] ∷ slice_split test (xs ++ c ∷ ys)) (onto_first x (slice_split test (xs ++ c ∷ ys)))) (not-true (test x) p.0)
-    ∙ ap (onto_first x) (split-first test xs ys c p.1 e)
-
-pub split-one : (test : ℕ → Bool) (xs : List ℕ) → Each (λ x. not (test x)) xs → slice_split test xs ≡ xs ∷ []
-split-one test [] h = refl
-split-one test (x ∷ xs) h =
-    let p = and_parts (not (test x)) (list_all (λ y. not (test y)) xs) h in
-    ap (λ b. cond b ([] ∷ slice_split test xs) (onto_first x (slice_split test xs))) (not-true (test x) p.0) ∙ ap (onto_first x) (split-one test xs p.1)
 
 abbrev behind : List (List ℕ) → List ℕ
 behind names = flat_map (λ n. 32 ∷ n) names

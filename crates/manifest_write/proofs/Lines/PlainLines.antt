@@ -6,14 +6,15 @@ use Rattle.std.proofs.lemmas.Bool.{and_from, not_from_false, false≢true}
 use Rattle.std.proofs.lemmas.Bool.Decides.{nat_tests}
 use Rattle.surf_text.specs.Lines.{is_blank, trim_back, onto_trimmed, trimmed}
 use Rattle.surf_text.specs.Cuts.{cut_at, with_front}
+use Rattle.surf_text.specs.Passing.{Each, lacks, begins}
 use Rattle.surf_text.proofs.LawLemmas.{front-blank, front-other}
 use Rattle.manifest_read.specs.declared.section.Section.TheVariants.{Rules, Surface, Colours}
 use Rattle.manifest_read.specs.declared.text.Setting.{Setting}
 use Rattle.manifest_read.specs.Sorts.{Starts, Ends, Unknown, Plain, front_of, bare, sorted, section_line, sort_of}
 use Rattle.manifest_read.specs.Settings.{named, by_equals, setting_of}
-use Rattle.manifest_write.proofs.Cutting.Bytes.{Each, lacks, IsCut, cut-parts}
+use Rattle.manifest_write.proofs.Cutting.Bytes.{IsCut, cut-parts}
 use Rattle.manifest_write.proofs.Cutting.Parted.{Parted, utf8-parted, each-parted, both-parted, trim-parted}
-use Rattle.manifest_write.proofs.Cutting.Tight.{begins, IsTight, trimmed-tight}
+use Rattle.manifest_write.proofs.Cutting.Tight.{IsTight, trimmed-tight}
 use Rattle.manifest_write.proofs.Contents.Fits.{IsClean, is_plain, IsBare, FitsSetting}
 use Rattle.manifest_write.proofs.Lines.LineSorts.{trimmed-plain}
 

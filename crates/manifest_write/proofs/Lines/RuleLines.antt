@@ -6,17 +6,18 @@ use Rattle.std.specs.Option.{option_map}
 use Rattle.surf_kinds.specs.Rates.{Fraction, IsReduced}
 use Rattle.surf_text.specs.Lines.{trimmed}
 use Rattle.surf_text.specs.Cuts.{with_front}
+use Rattle.surf_text.specs.Passing.{Each, lacks}
+use Rattle.surf_text.proofs.LawLemmas.{each-append, cut-front, ends-append, split-first, split-one}
 use Rattle.manifest_read.specs.declared.fault.ManifestKind.TheVariants.{BadRule}
 use Rattle.manifest_read.specs.Names.{is_name, cut_arrow}
 use Rattle.manifest_read.specs.Rules.{NamedRule, NamedOne, NamedTwo, side_of, by_arity, by_sides, by_arrow, by_rate, by_bracket, rule_of}
 use Rattle.manifest_read.specs.Sorts.{Plain, sort_of}
 use Rattle.manifest_write.specs.Canon.{rate_text}
-use Rattle.manifest_write.proofs.Cutting.Bytes.{Each, lacks, each-append, cut-front}
-use Rattle.manifest_write.proofs.Cutting.Tight.{ends-append, trim-behind, tight-trimmed}
+use Rattle.manifest_write.proofs.Cutting.Tight.{trim-behind, tight-trimmed}
 use Rattle.manifest_write.proofs.Spellings.Numbers.{rate-read, rate-lacks}
 use Rattle.manifest_write.proofs.Contents.Fits.{is_plain, IsBare, FitsName, FitsRule}
 use Rattle.manifest_write.proofs.Spellings.NameTexts.{name-text}
-use Rattle.manifest_write.proofs.Lines.LineSorts.{bare-sort, split-first, split-one}
+use Rattle.manifest_write.proofs.Lines.LineSorts.{bare-sort}
 
 -- the line of a rule, by its names
 abbrev pub named_line : NamedRule → List ℕ

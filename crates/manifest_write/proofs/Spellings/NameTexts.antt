@@ -3,9 +3,10 @@ use Rattle.std.proofs.Common.{◌≡◌, ℕ, ◌==◌, true, ◌&&◌, ◌||◌
 use Rattle.std.specs.List.{list_all}
 use Rattle.std.proofs.lemmas.Bool.{and_parts, not-true, not_from_false, or_parts}
 use Rattle.surf_text.specs.Lines.{is_blank}
+use Rattle.surf_text.specs.Passing.{Each, lacks, inked}
+use Rattle.surf_text.proofs.LawLemmas.{each-weaker}
 use Rattle.manifest_read.specs.Names.{is_name, is_name_front, is_name_byte, cut_arrow}
-use Rattle.manifest_write.proofs.Cutting.Bytes.{Each, lacks, each-weaker}
-use Rattle.manifest_write.proofs.Cutting.Tight.{inked, inked-tight}
+use Rattle.manifest_write.proofs.Cutting.Tight.{inked-tight}
 use Rattle.manifest_write.proofs.Contents.Fits.{is_plain, IsBare}
 
 pub record IsNameText (name : List ℕ) : Type 0 where

@@ -1,6 +1,6 @@
 -- Numbers, rates and durations are read as they were written.
-use Rattle.std.proofs.Common.{◌≡◌, ℕ, zero, suc, ◌+◌, ◌*◌, ◌/◌, ◌%◌, ◌^◌, ◌<◌, ◌≤◌, ◌==◌, Bool, true, false, cond, ◌&&◌, List, [], ◌∷◌, ◌++◌, length, replicate, None, Some, refl, sym, ap, ◌∙◌, inl, inr, arith, decimal, codes, subst, le-leb, lt-ltb, append-nil, div-one, eqb-true, ne_eqb, mul_assoc, mul_comm, pow-suc, mul-div_cancel}
-use Rattle.std.specs.Prelude.{pos, negsuc, ◌-ℤ◌, nat_le, nat_lt}
+use Rattle.std.proofs.Common.{◌≡◌, ℕ, zero, suc, ◌+◌, ◌*◌, ◌/◌, ◌%◌, ◌^◌, ◌<◌, ◌≤◌, ◌==◌, Bool, true, false, cond, List, [], ◌∷◌, ◌++◌, length, replicate, None, Some, refl, sym, ap, ◌∙◌, inl, inr, arith, decimal, codes, subst, le-leb, append-nil, div-one, eqb-true, ne_eqb, mul_assoc, mul_comm, pow-suc, mul-div_cancel}
+use Rattle.std.specs.Prelude.{pos, negsuc, ◌-ℤ◌, nat_le}
 use Rattle.std.specs.Option.{option_map, option_and_then}
 use Rattle.std.specs.Str.Parse.{digits_value, digits_value_after}
 use Rattle.std.specs.List.{list_all}
@@ -12,22 +12,21 @@ use Rattle.std.proofs.lemmas.Bool.{and_parts, and_from}
 use Rattle.std.proofs.lemmas.Bool.Decides.{nat_tests}
 use Rattle.std.proofs.lemmas.List.{length-append, length-replicate}
 use Rattle.std.proofs.lemmas.List.Folds.{list_all-append}
-use Rattle.std.proofs.lemmas.Fmt.{digits_decimal, digits_value-decimal, decimal_nonempty, length-decimal-le}
-use Rattle.surf_text.specs.Numbers.{is_digit, all_digits, is_number, u64_of}
-use Rattle.surf_text.proofs.LawLemmas.{after-append}
+use Rattle.std.proofs.lemmas.Fmt.{decimal_nonempty, length-decimal-le}
+use Rattle.surf_text.specs.Numbers.{is_digit, all_digits, u64_of}
 pub use Rattle.surf_text.proofs.LawLemmas.{decimal-digits, decimal-value, number-read}
 use Rattle.surf_text.specs.Lines.{trimmed}
 use Rattle.surf_text.specs.Cuts.{cut_at}
 use Rattle.surf_text.specs.Decimals.{decimal_of}
 use Rattle.surf_text.specs.declared.numbers.Dec.{Dec}
-use Rattle.surf_text.proofs.LawLemmas.{decimal-complete}
+use Rattle.surf_text.specs.Passing.{Each, lacks, inked}
+use Rattle.surf_text.proofs.LawLemmas.{after-append, decimal-complete, each-append, each-weaker, cut-front, cut-missing, ends-append}
 use Rattle.surf_kinds.specs.Rates.{Fraction, IsReduced}
 use Rattle.rates.specs.Rates.{scaled, whole_of, over, by_slash, fraction_of, gcd_of, bounded, reduced, rate_of}
 use Rattle.rates.specs.Durations.{ticks_of, duration_of}
 use Rattle.rates.proofs.LawLemmas.{gcd_of-is, power_positive}
 use Rattle.manifest_write.specs.Canon.{before_digits, without_zeros, last_digit, six_digits, duration_text, rate_text}
-use Rattle.manifest_write.proofs.Cutting.Bytes.{Each, lacks, each-append, each-weaker, cut-front, cut-missing}
-use Rattle.manifest_write.proofs.Cutting.Tight.{inked, IsTight, inked-tight, tight-append, ends-append, tight-trimmed}
+use Rattle.manifest_write.proofs.Cutting.Tight.{IsTight, inked-tight, tight-append, tight-trimmed}
 
 -- digits, each by itself
 pub each-digit : (text : List ℕ) → all_digits text ≡ true → Each is_digit text

@@ -1,7 +1,7 @@
 use Rattle.std.proofs.Common.{◌+◌, ℕ, List, [], drop, Bor}
 use Rattle.std.specs.List.{flat_map}
+use Rattle.surf_text.proofs.LawLemmas.{parts-within}
 use Rattle.surf_outside.proofs.LawLemmas.{puts_as, fails_behind}
-use Rattle.manifest_write.proofs.Spellings.Loops.{parts-within}
 use Rattle.manifest_write.proofs.pieces.put_pieces.Goals as goal
 
 pub returns-in_err-put : goal.returns-in_err-put

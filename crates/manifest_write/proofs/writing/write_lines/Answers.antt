@@ -1,7 +1,8 @@
 use Rattle.std.proofs.Common.{◌+◌, ◌++◌, ap, ◌∙◌, drop, take}
+use Rattle.surf_text.proofs.LawLemmas.{parts-within}
 use Rattle.surface_rows.specs.Rows.{lines_text}
 use Rattle.surf_outside.proofs.LawLemmas.{puts_as, fails_behind}
-use Rattle.manifest_write.proofs.Spellings.Loops.{ended, parts-within}
+use Rattle.manifest_write.proofs.Spellings.Loops.{ended}
 use Rattle.manifest_write.proofs.writing.write_lines.Goals as goal
 
 pub returns-in_err-put_pieces : goal.returns-in_err-put_pieces

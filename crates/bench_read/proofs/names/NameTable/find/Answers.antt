@@ -1,6 +1,6 @@
 use Rattle.std.specs.Str.{bytes_eq}
 use Rattle.std.proofs.Common.{◌≡◌, Some, None, position, ◌∙◌, ap}
-use Rattle.bench_read.proofs.NameLists.{position-map, found, missing, within}
+use Rattle.species.proofs.LawLemmas.{position-map, found, missing}
 use Rattle.bench_read.proofs.names.NameTable.find.Goals as goal
 
 pub returns-in-Some-clause-index : goal.returns-in-Some-clause-index

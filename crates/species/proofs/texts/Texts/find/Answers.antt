@@ -1,4 +1,4 @@
-use Rattle.std.proofs.Common.{refl, subst, sym, ◌∙◌, length, ◌<◌}
+use Rattle.std.proofs.Common.{subst, sym, length, ◌<◌}
 use Rattle.std.specs.String.{string_bytes}
 use Rattle.std.specs.Str.{bytes_eq}
 use Rattle.species.proofs.TextLists.{position-map, found, missing, index-within}
