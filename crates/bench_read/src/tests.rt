@@ -120,110 +120,48 @@ fn a_fault_of_the_sink_stops_the_text(rt: HostRuntime) -> Result<(), Fail> {
     Ok(())
 }
 
-/// Numbers that look random.
-#[derive(Drop)]
-struct Dice {
-    state: u64,
-}
-
-impl Dice {
-    /// The next number below a bound that isn't 0.
-    fn below(&mut self, bound: u32) -> u32 {
-        self.state = self
-            .state
-            .wrapping_mul(6_364_136_223_846_793_005)
-            .wrapping_add(1_442_695_040_888_963_407);
-        let drawn = (self.state / 8_589_934_592) as u32;
-        drawn.checked_rem(bound).unwrap_or(0)
-    }
-}
-
-/// The words of the operations, in their order for `value_of`.
-const WORDS: [&str; 9] = [
-    "AND", "or", "Xor", "NAND", "nor", "XNOR", "NOT", "BUF", "buff",
-];
-
-/// The value of a gate, by how many operands it has and how many of them are true.
-fn value_of(op: u32, count: u32, trues: u32) -> bool {
-    match op {
-        0 => trues == count,
-        1 => trues > 0,
-        2 => trues % 2 == 1,
-        3 => trues != count,
-        4 => trues == 0,
-        5 => trues % 2 == 0,
-        6 => trues == 0,
-        _ => trues > 0,
-    }
-}
-
-/// The line of a gate over the nets before it, and its value.
-fn gate_line(
-    alloc: Global,
-    dice: &mut Dice,
-    values: &[bool],
-    net: u32,
-) -> Result<(String, bool), Fail> {
-    let op = dice.below(9);
-    let word = WORDS.get(op as usize).copied().unwrap_or("BUFF");
-    let mut line = format!(in alloc; "x{net} = {word} (")?;
-    let count = if op < 6 {
-        dice.below(6).saturating_add(2)
-    } else {
-        1
-    };
-    let mut trues: u32 = 0;
-    for i in 0..count {
-        let operand = dice.below(net);
-        let comma = if i == 0 { "" } else { " , " };
-        line.push_str(format!(in alloc; "{comma}x{operand}")?.as_str())?;
-        if values.get(operand as usize).copied().unwrap_or(false) {
-            trues = trues.saturating_add(1);
-        }
-    }
-    line.push_str(")\n")?;
-    Ok((line, value_of(op, count, trues)))
-}
-
-/// A netlist of so many nets, all of them outputs in their order, and their values. Each gate stands above all the lines
-/// before it or below them.
-fn random_netlist(
-    alloc: Global,
-    dice: &mut Dice,
-    inputs: &[bool],
-    nets: u32,
-) -> Result<(String, Vec<bool>), Fail> {
-    let mut text = String::new(alloc);
-    let mut values = Vec::new(alloc);
-    for (i, bit) in inputs.iter().enumerate() {
-        text.push_str(format!(in alloc; "INPUT(x{i})\n")?.as_str())?;
-        values.push(*bit)?;
-    }
-    for net in 3..nets {
-        let (mut line, value) = gate_line(alloc, dice, &values, net)?;
-        values.push(value)?;
-        if dice.below(2) == 0 {
-            text.push_str(line.as_str())?;
-        } else {
-            line.push_str(text.as_str())?;
-            text = line;
-        }
-    }
-    for net in 0..nets {
-        text.push_str(format!(in alloc; "OUTPUT(x{net})\n")?.as_str())?;
-    }
-    Ok((text, values))
-}
+/// Each operation on the same three inputs, or on one net. The gates stand above their operands.
+const OPERATIONS: &[u8] = b"OUTPUT(0)
+OUTPUT(1)
+OUTPUT(2)
+OUTPUT(3)
+OUTPUT(4)
+OUTPUT(5)
+OUTPUT(6)
+OUTPUT(7)
+OUTPUT(8)
+OUTPUT(9)
+9 = Xnor(5, c, 1, 1, a)
+8 = buff(7)
+7 = BUF(6)
+6 = NOT(a)
+5 = XNOR(a, b, c)
+4 = nor(a, b, c)
+3 = NAND(a , b , c)
+2 = Xor(a, b, c)
+1 = or(a, b, c)
+0 = AND(a, b, c)
+INPUT(a)
+INPUT(b)
+INPUT(c)
+";
 
 #[test]
-fn random_netlists_keep_their_values(rt: HostRuntime) -> Result<(), Fail> {
+fn operations_keep_their_values(rt: HostRuntime) -> Result<(), Fail> {
     let alloc = rt.alloc();
-    let mut dice = Dice { state: 1 };
-    for nets in 4..44 {
-        let inputs = [dice.below(2) == 1, dice.below(2) == 1, dice.below(2) == 1];
-        let (text, values) = random_netlist(alloc, &mut dice, &inputs, nets)?;
-        let circuit = circuit_text(alloc, text.as_bytes())?;
-        assert_eq!(rt; output_values(alloc, &circuit, &inputs)?, values);
+    let circuit = circuit_text(alloc, OPERATIONS)?;
+    for a in [false, true] {
+        for b in [false, true] {
+            for c in [false, true] {
+                let all = a && b && c;
+                let any = a || b || c;
+                let odd = (a != b) != c;
+                assert_eq!(rt;
+                    output_values(alloc, &circuit, &[a, b, c])?.as_slice(),
+                    [all, any, odd, !all, !any, !odd, !a, !a, !a, b].as_slice()
+                );
+            }
+        }
     }
     Ok(())
 }

@@ -9,19 +9,16 @@ const A: SpeciesId = SpeciesId(0);
 
 const B: SpeciesId = SpeciesId(1);
 
-// The rate at which every wait is one tick.
+#[test]
 #[tactic(auto, using(surf_kinds::proofs::Fractions::whole_reduced))]
-fn instant() -> Rate {
-    Rate {
+fn a_range_has_its_own_next_events(rt: HostRuntime) -> Result<(), Fail> {
+    // at this rate every wait is one tick
+    let rate = Rate {
         p: 1_000_000_000,
         q: 1,
-    }
-}
-
-#[test]
-fn a_range_has_its_own_next_events(rt: HostRuntime) -> Result<(), Fail> {
+    };
     let rules = [Rule::Two {
-        rate: instant(),
+        rate,
         a: A,
         b: B,
         c: A,

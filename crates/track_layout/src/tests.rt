@@ -1,6 +1,5 @@
 use super::*;
 use circuit_text::{Circuit, read_circuit};
-use crn_compile::CompileError;
 use manifest_read::Manifest;
 use std::alloc::Global;
 use std::test::Fail;
@@ -94,22 +93,6 @@ fn an_input_without_use_has_a_track(rt: HostRuntime) -> Result<(), Fail> {
     let text = cell_names(rt.alloc(), &manifest)?;
     assert!(rt;
         text.as_str().starts_with("W0 w . . . w w w w . v . . . v . . . W1 cxx . . . v . . . ")
-    );
-    Ok(())
-}
-
-#[test]
-fn the_inputs_must_be_as_many(rt: HostRuntime) -> Result<(), Fail> {
-    let circuit = read_circuit(rt.alloc(), XOR)?;
-    let wrong = compact(rt.alloc(), &circuit, &[true]);
-    assert!(rt;
-        matches!(
-            wrong,
-            Err(CompileError::WrongInputs {
-                expected: 2,
-                given: 1
-            })
-        )
     );
     Ok(())
 }
