@@ -10,9 +10,9 @@ use Rattle.surf_kinds.specs.declared.site.SiteState.{SiteState}
 use Rattle.surface_state.specs.SurfaceView.{SurfaceView}
 use Rattle.border.specs.declared.op.Op.{Op}
 use Rattle.warp_core.specs.World.{World, IsWorld, Agree}
-use Rattle.warp_core.specs.Parts.{Part, PartStep, part_after, part_run, run_puts, run_takes, MayStep, MayRun}
+use Rattle.warp_core.specs.Parts.{Part, PartStep, part_run, run_puts, run_takes, MayRun}
 use Rattle.warp_core.specs.Cores.{IsConsistent, base_of}
-use Rattle.warp_core.proofs.LawLemmas.{next_rebased, none_rebased, round_keeps}
+use Rattle.warp_core.proofs.LawLemmas.{run_rebased, round_keeps}
 use Rattle.region_run.specs.declared.region.Region.{Region}
 use Rattle.region_run.specs.Sides.{SideView, is_other, line_of, ends_of, received_by}
 use Rattle.plan.specs.Network.{Network}
@@ -35,17 +35,6 @@ choose P (suc n) d f =
         | inr q ↦ subst (λ t. P i (cond t a.0 (r.0 i))) (sym q.0) (r.1 i (omega (arith, h, q.1)))
       ],
     )
-
--- a run over an own base is one over each base that agrees with it
-step_rebased : (w : World) → IsWorld w → (a c : List SiteState) (i : ℕ) (p : Part) (step : PartStep) → Agree w i a c → MayStep w a i p step → MayStep w c i p step
-step_rebased w laws a c i p (PartStep.Fires e) agree m = (next_rebased w laws i a c p e agree m.0, m.1)
-step_rebased w laws a c i p (PartStep.Passes e) agree m = (next_rebased w laws i a c p e agree m.0, m.1)
-step_rebased w laws a c i p PartStep.Ends agree m = none_rebased w laws i a c p agree m
-step_rebased w laws a c i p (PartStep.Takes j op) agree m = m
-
-pub run_rebased : (w : World) → IsWorld w → (a c : List SiteState) (floor : Key) (i : ℕ) (p : Part) (steps : List PartStep) → Agree w i a c → MayRun w a floor i p steps → MayRun w c floor i p steps
-run_rebased w laws a c floor i p [] agree m = tt
-run_rebased w laws a c floor i p (step ∷ steps) agree m = (step_rebased w laws a c i p step agree m.0, run_rebased w laws a c floor i (part_after w floor i p step) steps agree m.1)
 
 -- nothing is put for the region itself
 pub no_line : (n : Network) (b : Bands) (until : ℕ) (x : Base) (r : Region) → IsRegion n b until x r → line_to r r.id ≡ []

@@ -8,31 +8,31 @@ use Rattle.warp_core.specs.Parts.{run_takes}
 use Rattle.region_run.specs.declared.region.Region.{Region}
 use Rattle.region_run.specs.declared.side.Ends.{Ends}
 use Rattle.region_run.specs.declared.totals.Turn.{Turn}
-use Rattle.region_run.specs.Sides.{SideView, is_other, ends_of, received_by}
+use Rattle.region_run.specs.Sides.{SideView, is_other, ends_of, received_by, Exchanged, RingExchanged}
 use Rattle.region_run.specs.Regions.{Base, ends_with}
-use Rattle.region_run.specs.Turns.{IsTurn, Turned, RingTurned, handed_out}
+use Rattle.region_run.specs.Turns.{IsTurn, handed_out}
 use Rattle.crew.specs.Rounds.{Worked}
 
-pub same_number : (s t : Option SideView) (ops : List Op) (asks : ℕ) → Turned s ops asks t → (l : ℕ) → is_other t l ≡ is_other s l
+pub same_number : (s t : Option SideView) (ops : List Op) (asks : ℕ) → Exchanged s ops asks t → (l : ℕ) → is_other t l ≡ is_other s l
 same_number None None ops asks h l = refl
 same_number None (Some t) ops asks h l = absurd h
 same_number (Some s) None ops asks h l = absurd h
 same_number (Some s) (Some t) ops asks h l = ap (λ n. n == l) h.other
 
-ring_received : (e f : Option Ends) (outbox ops : List Op) (asks : ℕ) → RingTurned e outbox ops asks f → received_by f ≡ received_by e ++ ops
-ring_received None None outbox ops asks h = sym h
-ring_received None (Some f) outbox ops asks h = absurd h
-ring_received (Some e) None outbox ops asks h = absurd h
-ring_received (Some e) (Some f) outbox ops asks h = h.received
+ring_received : (e f : Option Ends) (ops : List Op) (asks : ℕ) → RingExchanged e ops asks f → received_by f ≡ received_by e ++ ops
+ring_received None None ops asks h = sym h
+ring_received None (Some f) ops asks h = absurd h
+ring_received (Some e) None ops asks h = absurd h
+ring_received (Some e) (Some f) ops asks h = h.received
 
-side_received : (s t : Option SideView) (ops : List Op) (asks : ℕ) → Turned s ops asks t → received_by (ends_of t) ≡ received_by (ends_of s) ++ ops
+side_received : (s t : Option SideView) (ops : List Op) (asks : ℕ) → Exchanged s ops asks t → received_by (ends_of t) ≡ received_by (ends_of s) ++ ops
 side_received None None ops asks h = sym h
 side_received None (Some t) ops asks h = absurd h
 side_received (Some s) None ops asks h = absurd h
-side_received (Some s) (Some t) ops asks h = ring_received s.ends t.ends t.outbox ops asks h.ring
+side_received (Some s) (Some t) ops asks h = ring_received s.ends t.ends ops asks h.ring
 
 -- what a neighbour's ring handed out was received
-received : (s t u v : Option SideView) (ops1 ops2 : List Op) (asks1 asks2 : ℕ) → Turned s ops1 asks1 t → Turned u ops2 asks2 v → (l : ℕ)
+received : (s t u v : Option SideView) (ops1 ops2 : List Op) (asks1 asks2 : ℕ) → Exchanged s ops1 asks1 t → Exchanged u ops2 asks2 v → (l : ℕ)
     → received_by (cond (is_other t l) (ends_of t) (cond (is_other v l) (ends_of v) None)) ≡ received_by (cond (is_other s l) (ends_of s) (cond (is_other u l) (ends_of u) None)) ++ cond (is_other s l) ops1 (cond (is_other u l) ops2 [])
 received s t u v ops1 ops2 asks1 asks2 a b l =
     subst (λ x. Says x (is_other v l) (is_other s l) (is_other u l)) (sym (same_number s t ops1 asks1 a l)) (subst (λ y. Says (is_other s l) y (is_other s l) (is_other u l)) (sym (same_number u v ops2 asks2 b l)) (by (is_other s l) (is_other u l)))

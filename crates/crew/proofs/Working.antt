@@ -13,12 +13,12 @@ use Rattle.region_run.specs.declared.region.Region.{Region}
 use Rattle.region_run.specs.declared.totals.Turn.{Turn}
 use Rattle.region_run.specs.declared.totals.Totals.{Totals}
 use Rattle.region_run.specs.declared.side.Ends.{Ends}
-use Rattle.region_run.specs.Sides.{SideView, is_other, received_by, raised, ends_of as ends_at}
+use Rattle.region_run.specs.Sides.{SideView, is_other, received_by, raised, ends_of as ends_at, Exchanged, RingExchanged}
 use Rattle.region_run.specs.Regions.{Base, world_at, part_of, line_to, ends_with, IsRegion}
 use Rattle.region_run.specs.Channels.{AreTied}
 use Rattle.region_run.specs.Counts.{with_turn}
 use Rattle.region_run.specs.Runs.{MakesRun, HasSpare}
-use Rattle.region_run.specs.Turns.{IsTurn, Turned, RingTurned}
+use Rattle.region_run.specs.Turns.{IsTurn}
 use Rattle.region_run.specs.Deliveries.{ArePaired, HasLooked, IsSame}
 use Rattle.crew.specs.Crews.{CrewView, IsCrew, IsReady, world_in, core_in, core_from, rest_of, turns_of, base_at, ends_of, ends_if, parts_of, lines_of, got_of, part_if, line_if}
 use Rattle.crew.specs.Calls.{ChangesTwo, ChangesEach, HasRoomMade, MayTurn, HasTurned, MayLook, LooksAt, IsSeen, AreLookedAt}
@@ -38,17 +38,17 @@ NamesStay (Some e) (Some f) = (f.out.ring ≡ e.out.ring) × (f.inn.ring ≡ e.i
 NamesStay None (Some f) = ⊥
 NamesStay (Some e) None = ⊥
 
-ring_names : (e f : Option Ends) (outbox ops : List Op) (asks : ℕ) → RingTurned e outbox ops asks f → NamesStay e f
-ring_names None None outbox ops asks h = tt
-ring_names None (Some f) outbox ops asks h = absurd h
-ring_names (Some e) None outbox ops asks h = absurd h
-ring_names (Some e) (Some f) outbox ops asks h = (h.out_ring, h.in_ring)
+ring_names : (e f : Option Ends) (ops : List Op) (asks : ℕ) → RingExchanged e ops asks f → NamesStay e f
+ring_names None None ops asks h = tt
+ring_names None (Some f) ops asks h = absurd h
+ring_names (Some e) None ops asks h = absurd h
+ring_names (Some e) (Some f) ops asks h = (h.out_ring, h.in_ring)
 
-side_names : (s t : Option SideView) (ops : List Op) (asks : ℕ) → Turned s ops asks t → NamesStay (ends_at s) (ends_at t)
+side_names : (s t : Option SideView) (ops : List Op) (asks : ℕ) → Exchanged s ops asks t → NamesStay (ends_at s) (ends_at t)
 side_names None None ops asks h = tt
 side_names None (Some t) ops asks h = absurd h
 side_names (Some s) None ops asks h = absurd h
-side_names (Some s) (Some t) ops asks h = ring_names s.ends t.ends t.outbox ops asks h.ring
+side_names (Some s) (Some t) ops asks h = ring_names s.ends t.ends ops asks h.ring
 
 turn_names : (n : Network) (b : Bands) (until : ℕ) (x : Base) (quota : ℕ) (r t : Region) (turn : Turn) → IsTurn n b until x quota r t turn → (l : ℕ) → NamesStay (ends_with r l) (ends_with t l)
 turn_names n b until x quota r t turn h l =

@@ -28,9 +28,10 @@ use Rattle.region_run.specs.Boards.{IsBoard}
 use Rattle.region_run.specs.Messages.{partition_at}
 use Rattle.region_run.specs.declared.board.Board.{Board}
 use Rattle.region_run.specs.declared.region.Region.{Region}
-use Rattle.region_run.specs.Sides.{SideView, is_other, Gained, first_told_of, back_of}
+use Rattle.region_run.specs.Sides.{SideView, is_other, Gained, first_told_of, lesser_key, back_of}
 use Rattle.region_run.specs.Regions.{Base, world_at, stack_in, line_in, part_of, AreMarked, IsSited, IsRegion}
 use Rattle.region_run.specs.Runs.{MakesStep, IsCutBack, IsReplayed, replayed_at}
+use Rattle.region_run.proofs.Remade.{remade}
 use Rattle.region_run.proofs.Sited.{other_same, lines_gained, stack_same, sited_still, back_for, no_back, not_early}
 use Rattle.region_run.proofs.Applies.{same_part, makes}
 
@@ -70,8 +71,8 @@ marked_below b id k (e ∷ es) m =
 
 pub cut_early : (n : Network) (b : Bands) (until : ℕ) (x : Base) (op : Op) (r : Region) (key : Key) (board : Board) (first second : Option SideView) → IsRegion n b until x r → key ≡ op_key op → is_before key r.clock ≡ true
     → board.timeline.entries ≡ entries_below key r.board.timeline.entries → board.range ≡ r.board.range → board.undoable ≡ r.board.undoable → IsBoard n x.cells x.past x.surface x.floor board
-    → Gained r.first (λ l. back_of (first_told_of b r.id r.first None key (events_of r.board.timeline.entries)) (first_told_of b r.id r.first r.second key (events_of r.board.timeline.entries))) first
-    → Gained r.second (λ l. back_of (first_told_of b r.id r.second None key (events_of r.board.timeline.entries)) (first_told_of b r.id r.first r.second key (events_of r.board.timeline.entries))) second
+    → Gained r.first (λ l. back_of (first_told_of b r.id r.first key (events_of r.board.timeline.entries)) (lesser_key (first_told_of b r.id r.first key (events_of r.board.timeline.entries)) (first_told_of b r.id r.second key (events_of r.board.timeline.entries)))) first
+    → Gained r.second (λ l. back_of (first_told_of b r.id r.second key (events_of r.board.timeline.entries)) (lesser_key (first_told_of b r.id r.first key (events_of r.board.timeline.entries)) (first_told_of b r.id r.second key (events_of r.board.timeline.entries)))) second
     → IsCutBack n b until x op r (record r { board = board; clock = key; first = first; second = second })
 cut_early n b until x op r key board first second g is early kept range undoable good g1 g2 =
     let early' : is_before (op_key op) r.clock ≡ true = subst (λ k. is_before k r.clock ≡ true) is early in
@@ -84,11 +85,11 @@ cut_early n b until x op r key board first second g is early kept range undoable
       marked = subst (AreMarked b r.id) (sym kept) (marked_below b r.id key r.board.timeline.entries g.marked);
       clock = is ∙ sym (ap (λ t. cond t (op_key op) r.clock) early');
       first = gained_as r.first first _ (op_puts (world_at n b until x) r.id (part_of r) op)
-          (λ l h. ap (λ k. back_of (first_told_of b r.id r.first None k (events_of r.board.timeline.entries)) (first_told_of b r.id r.first r.second k (events_of r.board.timeline.entries))) is
-          ∙ back_for n b until x r.id r.board.range r.first r.second g.sited g.cut r.first l (part_of r) op h early') g1;
+          (λ l h. ap (λ k. back_of (first_told_of b r.id r.first k (events_of r.board.timeline.entries)) (lesser_key (first_told_of b r.id r.first k (events_of r.board.timeline.entries)) (first_told_of b r.id r.second k (events_of r.board.timeline.entries)))) is
+          ∙ back_for n b until x r.id r.board.range r.first r.second g.sited g.cut r.first l (part_of r) op h early' g.sound.local.rising) g1;
       second = gained_as r.second second _ (op_puts (world_at n b until x) r.id (part_of r) op)
-          (λ l h. ap (λ k. back_of (first_told_of b r.id r.second None k (events_of r.board.timeline.entries)) (first_told_of b r.id r.first r.second k (events_of r.board.timeline.entries))) is
-          ∙ back_for n b until x r.id r.board.range r.first r.second g.sited g.cut r.second l (part_of r) op h early') g2;
+          (λ l h. ap (λ k. back_of (first_told_of b r.id r.second k (events_of r.board.timeline.entries)) (lesser_key (first_told_of b r.id r.first k (events_of r.board.timeline.entries)) (first_told_of b r.id r.second k (events_of r.board.timeline.entries)))) is
+          ∙ back_for n b until x r.id r.board.range r.first r.second g.sited g.cut r.second l (part_of r) op h early' g.sound.local.rising) g2;
     }
 
 -- what a message is taken for
@@ -340,25 +341,19 @@ module _ (n : Network) (b : Bands) (until : ℕ) (x : Base) (r mid : Region) (t 
 
   pub region_is : IsRegion n b until x (record mid { stacks = t })
   region_is =
-      record {
-        floor = ap (λ (y : Region). y.floor) m.same ∙ g.floor;
-        cut = g.cut;
-        lattice = g.lattice;
-        short = g.short;
-        inside = subst (λ i. i < b.count) (sym id_is) g.inside;
+      remade n b until x r g (record mid { stacks = t }) id_is (ap (λ (y : Region). y.floor) m.same)
+      (record {
         sited = subst (λ i. IsSited b i mid.board.range mid.first mid.second) (sym id_is) (subst (λ q. IsSited b r.id q mid.first mid.second) (sym m.range) sited);
         alone = λ u. g.alone (sym m.undoable ∙ u);
         two = two_still mid.first mid.second sender a mid.stacks t two is sited.apart;
         board = m.board;
         marked = subst (λ i. AreMarked b i mid.board.timeline.entries) (sym id_is) m.marked;
-        past = g.past;
-        fresh = λ p e h o. g.fresh p e h (o ∙ id_is);
         sound = subst (λ i. IsSound (world_at n b until x) x.surface.sites x.floor i (part_of (record mid { stacks = t }))) (sym id_is)
             (subst (IsSound (world_at n b until x) x.surface.sites x.floor r.id) (sym part_is) (take_sound (world_at n b until x) x.surface.sites x.floor r.id sender (part_of r) op g.sound));
         puts = λ l. subst (λ i. ArePutsOf (world_at n b until x) l i (stack_in mid.first mid.second t l)) (sym id_is) (puts_new l);
         from_first = first_new;
         from_second = second_new;
-      }
+      })
 
   lines : (l : ℕ) → line_in mid.first mid.second l ≡ line_in r.first r.second l ++ op_puts (world_at n b until x) r.id (part_of r) a l
   lines = lines_gained r.first r.second mid.first mid.second (op_puts (world_at n b until x) r.id (part_of r) a) m.first m.second (λ l p q. no_back n b until x r.id r.board.range r.first r.second g.sited g.cut l (part_of r) a p q)

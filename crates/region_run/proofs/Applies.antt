@@ -27,22 +27,16 @@ use Rattle.warp_core.specs.World.{World, IsWorld, is_own, after_all}
 use Rattle.warp_core.specs.Messages.{ArePutsOf, partition_of}
 use Rattle.warp_core.specs.Grounds.{IsTimely}
 use Rattle.warp_core.specs.Parts.{Part, PartStep, IsNextEntry, HasNoEntry, received_at, with_entry, IsSound, MayStep, part_after, step_puts, IsRun, run_takes, run_puts}
-use Rattle.warp_core.proofs.LawLemmas.{next_is, applied_sound, ended_sound, is_world, runs, events-append}
+use Rattle.warp_core.proofs.LawLemmas.{next_is, applied_sound, ended_sound, is_world, puts_at, events-append}
 use Rattle.region_run.specs.Boards.{IsBoard}
 use Rattle.region_run.specs.declared.board.Board.{Board}
 use Rattle.region_run.specs.declared.region.Region.{Region}
 use Rattle.region_run.specs.Sides.{SideView, is_other, Gained, event_puts}
 use Rattle.region_run.specs.Regions.{Base, world_at, stack_in, line_in, line_to, part_of, AreMarked, IsSited, IsRegion}
 use Rattle.region_run.specs.Runs.{MakesStep}
+use Rattle.region_run.proofs.Running.{makes_run}
+use Rattle.region_run.proofs.Remade.{remade, clocked}
 use Rattle.region_run.proofs.Sited.{other_same, lines_gained, stack_same, sited_still, tells_none}
-
-puts_at : (w : World) (j i : ℕ) (k : Key) (es : List Event) (e : Event) → ArePutsOf w j i es → at k es ≡ Some e → IsPutOf (partition_of w) j i e
-puts_at w j i k [] e a h = absurd (none-some e h)
-puts_at w j i k (x ∷ es) e a h =
-    elim (cases_Bool (same_key (key_of x) k)) [
-      | inl q ↦ subst (IsPutOf (partition_of w) j i) (same_Some x e (sym (ap (λ b. cond b (Some x) (at k es)) q) ∙ h)) a.0
-      | inr q ↦ puts_at w j i k es e a.1 (sym (ap (λ b. cond b (Some x) (at k es)) q) ∙ h)
-    ]
 
 pub same_part : (a b : Part) → a.timeline ≡ b.timeline → a.clock ≡ b.clock → a.stack ≡ b.stack → a ≡ b
 same_part a b t c h = λ i. record { timeline = t i; clock = c i; stack = h i }
@@ -55,16 +49,8 @@ marked_more b id (x ∷ es) e m h = (m.0, marked_more b id es e m.1 h)
 pub makes : (n : Network) (b : Bands) (until : ℕ) (x : Base) (r new : Region) (step : PartStep) → IsRegion n b until x r → new.id ≡ r.id → MayStep (world_at n b until x) x.surface.sites r.id (part_of r) step
     → part_of new ≡ part_after (world_at n b until x) x.floor r.id (part_of r) step → ((l : ℕ) → line_to new l ≡ line_to r l ++ step_puts (world_at n b until x) x.floor r.id (part_of r) step l) → IsRegion n b until x new → MakesStep n b until x r step new
 makes n b until x r new step g id may part puts good =
-    let w = world_at n b until x in
-    record {
-      id = id;
-      may = may;
-      part = part;
-      puts = puts;
-      facts = subst (λ p. IsRun w x.surface.sites x.floor r.id (part_of r) p (run_takes (step ∷ [])) (run_puts w x.floor r.id (part_of r) (step ∷ []))) (sym part)
-          (runs w (is_world n b until (first_surface x.cells) g.cut g.lattice g.short) x.surface.sites x.floor r.id (part_of r) (step ∷ []) g.sound (may, tt));
-      region = good;
-    }
+    let run = makes_run n b until x r new (step ∷ []) g id (may, tt) part (λ l. puts l ∙ ap (λ t. line_to r l ++ t) (sym (append-nil (step_puts (world_at n b until x) x.floor r.id (part_of r) step l)))) good in
+    record { id = id; may = may; part = part; puts = puts; facts = run.facts; region = good }
 
 -- what is known of an event that is applied next
 pub record Known (n : Network) (past : List Event) (es : List Event) (e : Event) : Type 0 where
@@ -128,24 +114,18 @@ module _ (n : Network) (b : Bands) (until : ℕ) (x : Base) (r : Region) (e : Ev
 
     pub region_is : IsRegion n b until x (record r { board = board; clock = clock; first = first; second = second })
     region_is =
-        record {
-          floor = g.floor;
-          cut = g.cut;
-          lattice = g.lattice;
-          short = g.short;
-          inside = g.inside;
+        remade n b until x r g (record r { board = board; clock = clock; first = first; second = second }) refl refl
+        (record {
           sited = subst (λ q. IsSited b r.id q first second) (sym range) (sited_still r.first r.second first second (event_puts b (owner_of b e.place.0 == r.id) e) gained1 gained2 b r.id r.board.range g.sited);
           alone = λ u. g.alone (sym undoable ∙ u);
           two = g.two;
           board = good;
           marked = subst (AreMarked b r.id) (sym entries) (marked_more b r.id r.board.timeline.entries entry g.marked (own ∙ ap (λ (y : Event). owner_of b y.place.0 == r.id) (sym event)));
-          past = g.past;
-          fresh = g.fresh;
           sound = subst (IsSound (world_at n b until x) x.surface.sites x.floor r.id) (sym part_is) (applied_sound (world_at n b until x) x.surface.sites x.floor r.id (part_of r) e g.sound h);
           puts = λ l. subst (λ f. ArePutsOf (world_at n b until x) l r.id (f l)) (sym (stack_same r.first r.second first second (event_puts b (owner_of b e.place.0 == r.id) e) gained1 gained2 r.stacks)) (g.puts l);
           from_first = AllKeys_weaker (λ k. is_other r.first (owner_of b k.place.0) ≡ true) (λ k. is_other first (owner_of b k.place.0) ≡ true) (λ k q. other_same r.first first (event_puts b (owner_of b e.place.0 == r.id) e) gained1 (owner_of b k.place.0) ∙ q) (stack_of r.stacks 0) g.from_first;
           from_second = AllKeys_weaker (λ k. is_other r.second (owner_of b k.place.0) ≡ true) (λ k. is_other second (owner_of b k.place.0) ≡ true) (λ k q. other_same r.second second (event_puts b (owner_of b e.place.0 == r.id) e) gained2 (owner_of b k.place.0) ∙ q) (stack_of r.stacks 1) g.from_second;
-        }
+        })
 
     gains : (l : ℕ) → line_in first second l ≡ line_in r.first r.second l ++ event_puts b (owner_of b e.place.0 == r.id) e l
     gains = lines_gained r.first r.second first second (event_puts b (owner_of b e.place.0 == r.id) e) gained1 gained2 (tells_none b r.id r.board.range r.first r.second e (owner_of b e.place.0 == r.id) g.sited refl)
@@ -165,21 +145,4 @@ pub ended : (n : Network) (b : Bands) (until : ℕ) (x : Base) (r : Region) → 
     → MakesStep n b until x r PartStep.Ends (record r { clock = record { time = until + 1; place = record { 0 = 0 } } })
 ended n b until x r g none =
     makes n b until x r (record r { clock = record { time = until + 1; place = record { 0 = 0 } } }) PartStep.Ends g refl none refl (λ l. sym (append-nil (line_in r.first r.second l)))
-    (record {
-      floor = g.floor;
-      cut = g.cut;
-      lattice = g.lattice;
-      short = g.short;
-      inside = g.inside;
-      sited = g.sited;
-      alone = g.alone;
-      two = g.two;
-      board = g.board;
-      marked = g.marked;
-      past = g.past;
-      fresh = g.fresh;
-      sound = ended_sound (world_at n b until x) x.surface.sites x.floor r.id (part_of r) g.sound none;
-      puts = g.puts;
-      from_first = g.from_first;
-      from_second = g.from_second;
-    })
+    (clocked n b until x r g (record { time = until + 1; place = record { 0 = 0 } }) r.totals (ended_sound (world_at n b until x) x.surface.sites x.floor r.id (part_of r) g.sound none))

@@ -18,7 +18,8 @@ use Rattle.region_run.specs.Turns.{handed_out, Hears, IfNumber}
 use Rattle.region_run.specs.Hearing.{Asks}
 use Rattle.region_run.proofs.Renumbered.{same_parts, renumbered, asked_other}
 use Rattle.region_run.proofs.Running.{makes_run, run_none, run_one, run_then, takes_append}
-use Rattle.region_run.proofs.Spares.{side_self, counted as region_counted}
+use Rattle.region_run.proofs.Remade.{counted as region_counted}
+use Rattle.region_run.proofs.Spares.{side_self}
 
 -- one ring
 
@@ -141,7 +142,7 @@ pub run_to : (n : Network) (b : Bands) (until : ℕ) (x : Base) (r last : Region
     → line_of first ≡ line_of last.first → line_of second ≡ line_of last.second → IsRegion n b until x r → MakesRun n b until x r steps last → MakesRun n b until x r steps (record last { first = first; second = second; totals = totals })
 run_to n b until x r last steps first second totals same1 same2 line1 line2 g s =
     makes_run n b until x r (record last { first = first; second = second; totals = totals }) steps g s.id s.may (same_parts n b until x last first second same1 same2 ∙ s.part) (λ l. lines l ∙ s.puts l)
-    (region_counted n b until x (record last { first = first; second = second }) totals (renumbered n b until x last first second same1 same2 s.region))
+    (region_counted n b until x (record last { first = first; second = second }) (renumbered n b until x last first second same1 same2 s.region) totals)
   where
     lines : (l : ℕ) → line_in first second l ≡ line_in last.first last.second l
     lines l =

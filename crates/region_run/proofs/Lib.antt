@@ -3,13 +3,13 @@ pub mod Nexts
 pub mod Trail
 pub mod Noted
 pub mod Sited
+pub mod Remade
 pub mod Spares
 pub mod Boarding
 pub mod Applies
 pub mod Absorbs
 pub mod Commits
 pub mod Starting
-pub mod Joining
 pub mod Running
 pub mod Renumbered
 pub mod Roomier

@@ -28,12 +28,13 @@ use Rattle.border.specs.Stacked.{stack_of}
 use Rattle.warp_core.specs.World.{World, IsWorld, IsMonotone, is_own, after_all}
 use Rattle.warp_core.specs.Timelines.{due_at, IsNext, IsNothingDue}
 use Rattle.warp_core.specs.Parts.{Part, IsNextEntry, HasNoEntry, received_at}
-use Rattle.warp_core.proofs.LawLemmas.{if_at_some, unwound, not_before_clock, is_world, is_monotone, same_after_all, ground_sites}
-use Rattle.region_run.specs.Choices.{better_of, first_of, IsBest, IsFirst}
+use Rattle.warp_core.proofs.LawLemmas.{if_at_some, unwound, not_before_clock, is_world, is_monotone, same_after_all, ground_sites, IsBest, best_start, best_next, best_none}
+use Rattle.warp_core.specs.Choices.{earlier_due_of}
+use Rattle.region_run.specs.Choices.{first_of, IsFirst}
 use Rattle.region_run.specs.Sides.{SideView, is_other}
 use Rattle.region_run.specs.declared.region.Region.{Region}
 use Rattle.region_run.specs.Regions.{Base, world_at, part_of, IsRegion}
-use Rattle.region_run.proofs.Bests.{best_start, best_add, best_next, best_none, first_stack}
+use Rattle.region_run.proofs.Bests.{best_add, first_stack}
 
 -- a place of the queue is one of the range
 pub in_range : (r : PlaceRange) (q : QueueView) (p : ℕ) → CoversRange r q → HasPlace q (record { 0 = p }) → is_in_range r p ≡ true
@@ -160,14 +161,14 @@ module _ (n : Network) (b : Bands) (until : ℕ) (x : Base) (r : Region) (g : Is
       ∙ ap (λ t. at k (cond t (stack_of r.stacks 1) [])) h)
 
   pub the_best : Option Event → Option Event
-  the_best o = better_of r.clock until (better_of r.clock until (better_of r.clock until None o) (first_of (from r.clock (stack_of r.stacks 0)))) (first_of (from r.clock (stack_of r.stacks 1)))
+  the_best o = earlier_due_of r.clock until (earlier_due_of r.clock until (earlier_due_of r.clock until None o) (first_of (from r.clock (stack_of r.stacks 0)))) (first_of (from r.clock (stack_of r.stacks 1)))
 
   abbrev Seen : Key → Type 0
   Seen k = ((⊥ ⊎ (is_own (world_at n b until x) r.id k ≡ true)) ⊎ (is_other r.first (owner_of b k.place.0) ≡ true)) ⊎ (is_other r.second (owner_of b k.place.0) ≡ true)
 
   pub best_is : (o : Option Event) → MatchOption o (IsEmpty r.board.queue) (λ e. IsLeast r.board.queue e) → RiseStrictly (stack_of r.stacks 0) → RiseStrictly (stack_of r.stacks 1)
       → IsBest (due_at (world_at n b until x) (is_own (world_at n b until x) r.id) (received_at (world_at n b until x) (part_of r)) r.board.surface.sites) r.clock until Seen
-      (better_of r.clock until (better_of r.clock until (better_of r.clock until None o) (first_of (from r.clock (stack_of r.stacks 0)))) (first_of (from r.clock (stack_of r.stacks 1))))
+      (earlier_due_of r.clock until (earlier_due_of r.clock until (earlier_due_of r.clock until None o) (first_of (from r.clock (stack_of r.stacks 0)))) (first_of (from r.clock (stack_of r.stacks 1))))
   unfolding the_due
   best_is o least up0 up1 =
       let d = due_at (world_at n b until x) (is_own (world_at n b until x) r.id) (received_at (world_at n b until x) (part_of r)) r.board.surface.sites in

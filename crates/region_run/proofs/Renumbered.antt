@@ -10,6 +10,7 @@ use Rattle.warp_core.specs.Parts.{IsSound}
 use Rattle.region_run.specs.declared.region.Region.{Region}
 use Rattle.region_run.specs.Sides.{SideView, is_other, Asked}
 use Rattle.region_run.specs.Regions.{Base, world_at, stack_in, part_of, IsSited, IsRegion}
+use Rattle.region_run.proofs.Remade.{remade}
 use Rattle.region_run.proofs.Applies.{same_part}
 
 -- the stacks are those of the same numbers
@@ -42,24 +43,18 @@ module _ (n : Network) (b : Bands) (until : ℕ) (x : Base) (r : Region) (first 
 
   pub renumbered : IsRegion n b until x r → IsRegion n b until x (record r { first = first; second = second })
   renumbered g =
-      record {
-        floor = g.floor;
-        cut = g.cut;
-        lattice = g.lattice;
-        short = g.short;
-        inside = g.inside;
+      remade n b until x r g (record r { first = first; second = second }) refl refl
+      (record {
         sited = sited g.sited;
         alone = g.alone;
         two = g.two;
         board = g.board;
         marked = g.marked;
-        past = g.past;
-        fresh = g.fresh;
         sound = subst (IsSound (world_at n b until x) x.surface.sites x.floor r.id) (sym same_parts) g.sound;
         puts = λ l. subst (λ f. ArePutsOf (world_at n b until x) l r.id (f l)) (sym stacks_same) (g.puts l);
         from_first = AllKeys_weaker (λ k. is_other r.first (owner_of b k.place.0) ≡ true) (λ k. is_other first (owner_of b k.place.0) ≡ true) (λ k q. same1 (owner_of b k.place.0) ∙ q) (stack_of r.stacks 0) g.from_first;
         from_second = AllKeys_weaker (λ k. is_other r.second (owner_of b k.place.0) ≡ true) (λ k. is_other second (owner_of b k.place.0) ≡ true) (λ k q. same2 (owner_of b k.place.0) ∙ q) (stack_of r.stacks 1) g.from_second;
-      }
+      })
 
 pub asked_other : (o t : Option SideView) (op : Option Op) → Asked o op t → (l : ℕ) → is_other t l ≡ is_other o l
 asked_other None None op a l = refl

@@ -20,6 +20,7 @@ use Rattle.region_run.specs.Sides.{SideView, is_other}
 use Rattle.region_run.specs.Regions.{Base, world_at, stack_in, part_of, AreMarked, IsSited, IsRegion}
 use Rattle.region_run.specs.Starts.{SameButRoom}
 use Rattle.region_run.specs.Turns.{IsGiven}
+use Rattle.region_run.proofs.Remade.{remade}
 use Rattle.region_run.proofs.Applies.{same_part}
 use Rattle.region_run.proofs.Renumbered.{renumbered}
 
@@ -57,24 +58,18 @@ module _ (n : Network) (b : Bands) (until : ℕ) (x : Base) (r : Region) (board 
 
   roomed : IsRegion n b until x r → IsRegion n b until x (record r { board = board; stacks = stacks })
   roomed g =
-      record {
-        floor = g.floor;
-        cut = g.cut;
-        lattice = g.lattice;
-        short = g.short;
-        inside = g.inside;
+      remade n b until x r g (record r { board = board; stacks = stacks }) refl refl
+      (record {
         sited = subst (λ q. IsSited b r.id q r.first r.second) (sym (ap (λ (y : Board). y.range) same)) g.sited;
         alone = λ u. g.alone (sym (ap (λ (y : Board). y.undoable) same) ∙ u);
         two = ap length same_stacks ∙ g.two;
         board = board_same n x.cells x.past x.surface x.floor r.board board same entries items g.board;
         marked = subst (AreMarked b r.id) (sym entries) g.marked;
-        past = g.past;
-        fresh = g.fresh;
         sound = subst (IsSound (world_at n b until x) x.surface.sites x.floor r.id) (sym parts) g.sound;
         puts = λ l. subst (λ f. ArePutsOf (world_at n b until x) l r.id (f l)) (sym stack_same) (g.puts l);
         from_first = subst (λ xs. AllKeys (λ k. is_other r.first (owner_of b k.place.0) ≡ true) (slice_index_or xs 0 [])) (sym same_stacks) g.from_first;
         from_second = subst (λ xs. AllKeys (λ k. is_other r.second (owner_of b k.place.0) ≡ true) (slice_index_or xs 1 [])) (sym same_stacks) g.from_second;
-      }
+      })
 
   -- with more room it is a region still
   pub roomier : (first second : Option SideView) → ((l : ℕ) → is_other first l ≡ is_other r.first l) → ((l : ℕ) → is_other second l ≡ is_other r.second l) → IsRegion n b until x r → IsRegion n b until x (record r { board = board; stacks = stacks; first = first; second = second })

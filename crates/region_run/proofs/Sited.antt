@@ -1,11 +1,13 @@
 -- Neighbours, and what is put for them.
 use Rattle.std.proofs.Common.{◌≡◌, ℕ, zero, suc, ◌<◌, Bool, true, false, ◌==◌, ◌&&◌, ◌||◌, inl, inr, List, [], ◌∷◌, ◌++◌, refl, sym, ap, ◌∙◌, arith, Option, Some, None, cond, append_assoc, if◌then◌else◌}
+use Rattle.std.specs.Prelude.{not}
 use Rattle.std.proofs.lemmas.Bool.{both_ways, cases_Bool, eqb-true, and_parts, or_cases, or_left, or_right}
 use Rattle.std.proofs.lemmas.Bool.Decides.{eqb_tells}
 use Rattle.surf_kinds.specs.declared.event.Event.{Event}
 use Rattle.surf_kinds.specs.declared.event.Key.{Key}
-use Rattle.surf_kinds.specs.Keys.{is_before, keep, from}
-use Rattle.surf_kinds.proofs.Tables.{keep_same, keep_none, all_keys}
+use Rattle.surf_kinds.specs.Keys.{is_before, key_of, keep, from, AllKeys, IsRising, ◌is_below◌}
+use Rattle.surf_kinds.proofs.Order.{lt_to_le}
+use Rattle.surf_kinds.proofs.Tables.{AllKeys_keep, IsRising_keep, keep_same, keep_none, all_keys}
 use Rattle.lattice.specs.declared.place_range.PlaceRange.{PlaceRange}
 use Rattle.plan.specs.Network.{Network}
 use Rattle.regions.specs.Bands.{Bands, IsCut, owner_of}
@@ -17,7 +19,7 @@ use Rattle.border.specs.Messages.{op_key}
 use Rattle.border.specs.Stacked.{StacksView, stack_of}
 use Rattle.warp_core.specs.World.{is_own, is_told_by}
 use Rattle.warp_core.specs.Parts.{is_told_to_some, back_if_any, op_puts, Part}
-use Rattle.region_run.specs.Sides.{SideView, is_other, line_of, sent_by, Gained, event_puts, is_side_told, is_own_told, first_key, first_told_of, back_of}
+use Rattle.region_run.specs.Sides.{SideView, is_other, line_of, sent_by, Gained, event_puts, is_side_told, is_own_told, first_key, first_told_of, lesser_key, back_of}
 use Rattle.region_run.specs.Regions.{Base, world_at, stack_in, line_in, IsSited}
 
 -- a neighbour stays who it is
@@ -125,18 +127,39 @@ same_bool true y f g = sym (f refl)
 same_bool false true f g = g refl
 same_bool false false f g = refl
 
--- of two neighbours the second is none
-only_first : (x y : Bool) → (x && (y || false)) ≡ (x && y)
-only_first true true = refl
-only_first true false = refl
-only_first false y = refl
+-- the first of all that pass one of two tests
+first_of_either : (P Q : Key → Bool) (es : List Event) → IsRising es → first_key (keep (λ k. P k || Q k) es) ≡ lesser_key (first_key (keep P es)) (first_key (keep Q es))
+first_of_either P Q [] r = refl
+first_of_either P Q (e ∷ es) r = either (P (key_of e)) (Q (key_of e)) (first_of_either P Q es r.1)
+  where
+    later : (test : Key → Bool) → AllKeys (λ k. key_of e is_below k) (keep test es)
+    later test = AllKeys_keep (λ k. key_of e is_below k) test es r.0
+
+    here_first : (xs : List Event) → AllKeys (λ k. key_of e is_below k) xs → Some (key_of e) ≡ lesser_key (Some (key_of e)) (first_key xs)
+    here_first [] all = refl
+    here_first (x ∷ xs) all = sym (ap (λ t. cond t (Some (key_of x)) (Some (key_of e))) (lt_to_le (key_of e) (key_of x) all.0))
+
+    here_last : (xs : List Event) → AllKeys (λ k. key_of e is_below k) xs → Some (key_of e) ≡ lesser_key (first_key xs) (Some (key_of e))
+    here_last [] all = refl
+    here_last (x ∷ xs) all = sym (ap (λ t. cond t (Some (key_of e)) (Some (key_of x))) all.0)
+
+    at_once : (t : Bool) → Some (key_of e) ≡ cond t (Some (key_of e)) (Some (key_of e))
+    at_once true = refl
+    at_once false = refl
+
+    either : (s t : Bool) → first_key (keep (λ k. P k || Q k) es) ≡ lesser_key (first_key (keep P es)) (first_key (keep Q es))
+        → first_key (cond (s || t) (e ∷ keep (λ k. P k || Q k) es) (keep (λ k. P k || Q k) es)) ≡ lesser_key (first_key (cond s (e ∷ keep P es) (keep P es))) (first_key (cond t (e ∷ keep Q es) (keep Q es)))
+    either true true h = at_once (is_before (key_of e) (key_of e))
+    either true false h = here_first (keep Q es) (later Q)
+    either false true h = here_last (keep P es) (later P)
+    either false false h = h
 
 module _ (n : Network) (c : Bands) (until : ℕ) (x : Base) (id : ℕ) (range : PlaceRange) (first second : Option SideView) (s : IsSited c id range first second) (cut : IsCut c) where
-  any_told : (k : Key) → is_own_told c id first second k ≡ (is_own (world_at n c until x) id k && is_told_to_some (is_told c) c.count k.place.0)
+  any_told : (k : Key) → (is_own_told c id first k || is_own_told c id second k) ≡ (is_own (world_at n c until x) id k && is_told_to_some (is_told c) c.count k.place.0)
   any_told k =
       elim (cases_Bool (owner_of c k.place.0 == id)) [
         | inl mine ↦
-            ap (λ t. t && (is_side_told c first k.place.0 || is_side_told c second k.place.0)) mine
+            ap (λ t. (t && is_side_told c first k.place.0) || (t && is_side_told c second k.place.0)) mine
             ∙ (same_bool _ _
             (λ h. elim (or_cases (is_side_told c first k.place.0) (is_side_told c second k.place.0) h) [
               | inl q ↦ let t = told_side_is c first k.place.0 q in told_some_from (is_told c) c.count t.0 k.place.0 (told_below c t.0 k.place.0 cut t.1) t.1
@@ -149,21 +172,28 @@ module _ (n : Network) (c : Bands) (until : ℕ) (x : Base) (id : ℕ) (range : 
               | inr q ↦ or_right (is_side_told c first k.place.0) (is_side_told c second k.place.0) (side_told c second t.0 k.place.0 q ∙ t.1)
             ])
             ∙ ap (λ t. t && is_told_to_some (is_told c) c.count k.place.0) (sym mine))
-        | inr other ↦ ap (λ t. t && (is_side_told c first k.place.0 || is_side_told c second k.place.0)) other ∙ ap (λ t. t && is_told_to_some (is_told c) c.count k.place.0) (sym other)
+        | inr other ↦
+            ap (λ t. (t && is_side_told c first k.place.0) || (t && is_side_told c second k.place.0)) other
+            ∙ ap (λ t. t && is_told_to_some (is_told c) c.count k.place.0) (sym other)
       ]
 
-  one_told : (o : Option SideView) (l : ℕ) → is_other o l ≡ true → (k : Key) → is_own_told c id o None k ≡ is_told_by (world_at n c until x) id l k
-  one_told o l h k = only_first (owner_of c k.place.0 == id) (is_side_told c o k.place.0) ∙ ap (λ t. (owner_of c k.place.0 == id) && t) (side_told c o l k.place.0 h)
+  one_told : (o : Option SideView) (l : ℕ) → is_other o l ≡ true → (k : Key) → is_own_told c id o k ≡ is_told_by (world_at n c until x) id l k
+  one_told o l h k = ap (λ t. (owner_of c k.place.0 == id) && t) (side_told c o l k.place.0 h)
 
   -- the Back for a neighbour
-  pub back_for : (o : Option SideView) (l : ℕ) (p : Part) (op : Op) → is_other o l ≡ true → is_before (op_key op) p.clock ≡ true
-      → back_of (first_told_of c id o None (op_key op) p.timeline) (first_told_of c id first second (op_key op) p.timeline) ≡ op_puts (world_at n c until x) id p op l
-  back_for o l p op h early =
+  pub back_for : (o : Option SideView) (l : ℕ) (p : Part) (op : Op) → is_other o l ≡ true → is_before (op_key op) p.clock ≡ true → IsRising p.timeline
+      → back_of (first_told_of c id o (op_key op) p.timeline) (lesser_key (first_told_of c id first (op_key op) p.timeline) (first_told_of c id second (op_key op) p.timeline)) ≡ op_puts (world_at n c until x) id p op l
+  back_for o l p op h early rising =
       let here = from (op_key op) p.timeline in
-      ap (λ es. back_of (first_key es) (first_key (keep (is_own_told c id first second) here))) (keep_same (is_own_told c id o None) (is_told_by (world_at n c until x) id l) (one_told o l h) here)
-      ∙ (ap (λ es. back_of (first_key (keep (is_told_by (world_at n c until x) id l) here)) (first_key es)) (keep_same (is_own_told c id first second) (λ k. is_own (world_at n c until x) id k && is_told_to_some (is_told c) c.count k.place.0) any_told here)
-      ∙ (sym (back_if_is (keep (is_told_by (world_at n c until x) id l) here) (keep (λ k. is_own (world_at n c until x) id k && is_told_to_some (is_told c) c.count k.place.0) here))
-      ∙ ap (λ t. cond t (back_if_any (keep (is_told_by (world_at n c until x) id l) here) (keep (λ k. is_own (world_at n c until x) id k && is_told_to_some (is_told c) c.count k.place.0) here)) []) (sym early)))
+      let told = keep (is_told_by (world_at n c until x) id l) here in
+      let to_some : Key → Bool = λ k. is_own (world_at n c until x) id k && is_told_to_some (is_told c) c.count k.place.0 in
+      let least : lesser_key (first_told_of c id first (op_key op) p.timeline) (first_told_of c id second (op_key op) p.timeline) ≡ first_key (keep to_some here) =
+      sym (first_of_either (is_own_told c id first) (is_own_told c id second) here (IsRising_keep (λ k. not (is_before k (op_key op))) p.timeline rising))
+      ∙ ap first_key (keep_same (λ k. is_own_told c id first k || is_own_told c id second k) to_some any_told here) in
+      ap (λ es. back_of (first_key es) (lesser_key (first_told_of c id first (op_key op) p.timeline) (first_told_of c id second (op_key op) p.timeline))) (keep_same (is_own_told c id o) (is_told_by (world_at n c until x) id l) (one_told o l h) here)
+      ∙ (ap (back_of (first_key told)) least
+      ∙ (sym (back_if_is told (keep to_some here))
+      ∙ ap (λ t. cond t (back_if_any told (keep to_some here)) []) (sym early)))
 
   -- a region that is no neighbour was told nothing
   pub no_back : (l : ℕ) (p : Part) (op : Op) → is_other first l ≡ false → is_other second l ≡ false → op_puts (world_at n c until x) id p op l ≡ []

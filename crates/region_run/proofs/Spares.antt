@@ -17,6 +17,7 @@ use Rattle.warp_core.specs.Parts.{PartStep}
 use Rattle.region_run.specs.declared.totals.Totals.{Totals}
 use Rattle.region_run.specs.Regions.{Base, is_own_key, AreMarked, IsRegion}
 use Rattle.region_run.specs.Runs.{HasSpare, SameSide, IsReplayed, replayed_at, MakesStep, StepsOn}
+use Rattle.region_run.proofs.Remade.{counted}
 use Rattle.region_run.specs.Starts.{own_entries_below, received_entries_below}
 
 pub side_gained : (o t : Option SideView) (ops : ℕ → List Op) → Gained o ops t → SameSide o t
@@ -91,29 +92,8 @@ drop_end (e ∷ es) (suc n) h = drop_end es n (omega (arith, h))
 
 -- another count
 
-pub counted : (n : Network) (b : Bands) (until : ℕ) (x : Base) (r : Region) (t : Totals) → IsRegion n b until x r → IsRegion n b until x (record r { totals = t })
-counted n b until x r t g =
-    record {
-      floor = g.floor;
-      cut = g.cut;
-      lattice = g.lattice;
-      short = g.short;
-      inside = g.inside;
-      sited = g.sited;
-      alone = g.alone;
-      two = g.two;
-      board = g.board;
-      marked = g.marked;
-      past = g.past;
-      fresh = g.fresh;
-      sound = g.sound;
-      puts = g.puts;
-      from_first = g.from_first;
-      from_second = g.from_second;
-    }
-
 pub step_counted : (n : Network) (b : Bands) (until : ℕ) (x : Base) (r new : Region) (step : PartStep) (t : Totals) → MakesStep n b until x r step new → MakesStep n b until x r step (record new { totals = t })
-step_counted n b until x r new step t s = record { id = s.id; may = s.may; part = s.part; puts = s.puts; facts = s.facts; region = counted n b until x new t s.region }
+step_counted n b until x r new step t s = record { id = s.id; may = s.may; part = s.part; puts = s.puts; facts = s.facts; region = counted n b until x new s.region t }
 
 pub steps_counted : (n : Network) (b : Bands) (until : ℕ) (x : Base) (r new : Region) (answer : Bool) (t : Totals) → StepsOn n b until x r answer new → StepsOn n b until x r answer (record new { totals = t })
 steps_counted n b until x r new true t s = (s.0, step_counted n b until x r new s.0 t s.1, s.2)

@@ -10,7 +10,6 @@ use Rattle.surf_kinds.proofs.Order.{lt_not_le}
 use Rattle.plan.specs.Network.{Network}
 use Rattle.regions.specs.Bands.{Bands}
 use Rattle.border.specs.declared.op.Op.{Op}
-use Rattle.border.specs.Ends.{InView}
 use Rattle.border.specs.Messages.{op_key, accepted_op}
 use Rattle.timeline.specs.declared.entry.Entry.{Entry}
 use Rattle.timeline.specs.TimelineView.{events_of}
@@ -24,9 +23,9 @@ use Rattle.region_run.specs.declared.totals.Turn.{Turn}
 use Rattle.region_run.specs.Sides.{SideView, is_other, line_of, sent_by, HasRoom, RingExchanged, Exchanged}
 use Rattle.region_run.specs.Channels.{RingFlushed, Flushed}
 use Rattle.region_run.specs.Regions.{Base, world_at, part_of, IsRegion}
-use Rattle.region_run.specs.Runs.{MakesStep, SameRings, StepsOn, HasSpare}
+use Rattle.region_run.specs.Runs.{MakesStep, SameSide, SameRings, StepsOn, HasSpare}
 use Rattle.region_run.specs.Counts.{added_in, taken_in, cut_in}
-use Rattle.region_run.specs.Turns.{Hears, RingTurned, Turned, IsAtEnd, HasEntryLeft, IsTurn}
+use Rattle.region_run.specs.Turns.{Hears, RingSent, IsSent, AreSent, IsAtEnd, HasEntryLeft, IsTurn}
 use Rattle.region_run.specs.Hearing.{Asks, Works}
 use Rattle.region_run.proofs.Renumbered.{same_parts}
 use Rattle.region_run.proofs.Running.{run_none, run_one, added_append, taken_append}
@@ -192,32 +191,46 @@ flushed_line None (Some t) f = absurd f
 flushed_line (Some s) None f = absurd f
 flushed_line (Some s) (Some t) f = flushed_ring s.ends t.ends s.outbox t.outbox f.ring
 
-ring_turned : (e m f : Option Ends) (ops : List Op) (asks : ℕ) (box box' : List Op) → RingExchanged e ops asks m → RingFlushed m box box' f → RingTurned e box' ops asks f
-ring_turned None None None ops asks box box' h g = h
-ring_turned None None (Some f) ops asks box box' h g = absurd g
-ring_turned None (Some m) f ops asks box box' h g = absurd h
-ring_turned (Some e) None f ops asks box box' h g = absurd h
-ring_turned (Some e) (Some m) None ops asks box box' h g = absurd g
-ring_turned (Some e) (Some m) (Some f) ops asks box box' h g =
-    let inn = g.0.inn in
-    record {
-      out_ring = g.0.ring ∙ h.out_ring;
-      in_ring = ap (λ (i : InView). i.ring) inn ∙ h.in_ring;
-      out_slots = g.0.slots ∙ h.out_slots;
-      in_slots = ap (λ (i : InView). i.slots) inn ∙ h.in_slots;
-      received = ap (λ (i : InView). i.received) inn ∙ h.received;
-      asked = ap (λ (i : InView). i.asked) inn ∙ h.asked;
-      free = omega (arith, h.free, g.0.free);
-      sent = elim g.1 [ inl none ↦ inl none | inr much ↦ inr (omega (arith, h.free, much)) ];
-    }
+-- what was sent since an earlier time was so since a time before that
 
-turned : (o m t : Option SideView) (ops : List Op) (asks : ℕ) → Exchanged o ops asks m → Flushed m t → Turned o ops asks t
-turned None None None ops asks h f = h
-turned None None (Some t) ops asks h f = absurd f
-turned None (Some m) t ops asks h f = absurd h
-turned (Some s) None t ops asks h f = absurd h
-turned (Some s) (Some m) None ops asks h f = absurd f
-turned (Some s) (Some m) (Some t) ops asks h f = record { other = f.other ∙ h.other; ring = ring_turned s.ends m.ends t.ends ops asks m.outbox t.outbox h.ring f.ring }
+ring_since : (e m f : Option Ends) (ops : List Op) (asks : ℕ) (box : List Op) → RingExchanged e ops asks m → RingSent m box f → RingSent e box f
+ring_since None None None ops asks box h g = tt
+ring_since None None (Some f) ops asks box h g = absurd g
+ring_since None (Some m) f ops asks box h g = absurd h
+ring_since (Some e) None f ops asks box h g = absurd h
+ring_since (Some e) (Some m) None ops asks box h g = absurd g
+ring_since (Some e) (Some m) (Some f) ops asks box h g = elim g [ inl none ↦ inl none | inr much ↦ inr (omega (arith, h.free, much)) ]
+
+sent_since : (o m t : Option SideView) (ops : List Op) (asks : ℕ) → Exchanged o ops asks m → IsSent m t → IsSent o t
+sent_since None None None ops asks h f = tt
+sent_since None None (Some t) ops asks h f = absurd f
+sent_since None (Some m) t ops asks h f = absurd h
+sent_since (Some s) None t ops asks h f = absurd h
+sent_since (Some s) (Some m) None ops asks h f = absurd f
+sent_since (Some s) (Some m) (Some t) ops asks h f = ring_since s.ends m.ends t.ends ops asks t.outbox h.ring f
+
+ring_flushed : (e f : Option Ends) (box box' : List Op) → RingFlushed e box box' f → RingSent e box' f
+ring_flushed None None box box' h = tt
+ring_flushed None (Some f) box box' h = absurd h
+ring_flushed (Some e) None box box' h = absurd h
+ring_flushed (Some e) (Some f) box box' h = h.1
+
+flushed_sent : (o t : Option SideView) → Flushed o t → IsSent o t
+flushed_sent None None f = tt
+flushed_sent None (Some t) f = absurd f
+flushed_sent (Some s) None f = absurd f
+flushed_sent (Some s) (Some t) f = ring_flushed s.ends t.ends s.outbox t.outbox f.ring
+
+-- the same of a region
+pub works_sent_on : (n : Network) (b : Bands) (until : ℕ) (x : Base) (m a t k : ℕ) (r mid new : Region) → Works n b until x m r a t k mid → AreSent mid new → AreSent r new
+works_sent_on n b until x m a t k r mid new s sent = (
+  sent_since r.first mid.first new.first s.hears.ops1 s.asks1 s.hears.first sent.0,
+  sent_since r.second mid.second new.second s.hears.ops2 s.asks2 s.hears.second sent.1,
+)
+
+-- a neighbour was heard and told, and then all was sent that could be
+pub sent_after : (o m l t : Option SideView) (ops : List Op) (asks : ℕ) → Exchanged o ops asks m → SameSide m l → Flushed l t → IsSent o t
+sent_after o m l t ops asks h same f = sent_since o m t ops asks h (sent_since m l t [] 0 (heard_same m l same) (flushed_sent l t f))
 
 flushed_room : (o t : Option SideView) (m : ℕ) → Flushed o t → HasRoom m o → HasRoom m t
 flushed_room None None m f h = tt
@@ -255,23 +268,11 @@ module _ (r : Region) (first second : Option SideView) (f1 : Flushed r.first fir
 
 -- a turn
 
-left_same : (n : Network) (b : Bands) (until : ℕ) (x : Base) (r new : Region) (t : Bool) → new.id ≡ r.id → part_of new ≡ part_of r → new.clock ≡ r.clock → MatchBool t (IsAtEnd n b until x r) (HasEntryLeft n b until x r) → MatchBool t (IsAtEnd n b until x new) (HasEntryLeft n b until x new)
-left_same n b until x r new true id part clock h =
-    let w = world_at n b until x in
-    (subst (λ p. HasNoEntry w x.surface.sites new.id p) (sym part) (subst (λ i. HasNoEntry w x.surface.sites i (part_of r)) (sym id) h.0), clock ∙ h.1)
-left_same n b until x r new false id part clock h =
-    let w = world_at n b until x in
-    (h.0, subst (λ p. IsNextEntry w x.surface.sites new.id p h.0) (sym part) (subst (λ i. IsNextEntry w x.surface.sites i (part_of r) h.0) (sym id) h.1))
-
-pub is_turn : (n : Network) (b : Bands) (until : ℕ) (x : Base) (quota : ℕ) (r last : Region) (first second : Option SideView) (totals : Totals) (t : Turn) → IsRegion n b until x r → Works n b until x quota r t.added t.taken (max 1 t.added) last
-    → t.added ≤ quota → (t.empty ≡ false → t.added ≡ quota) → MatchBool t.empty (IsAtEnd n b until x last) (HasEntryLeft n b until x last) → length last.board.timeline.entries + t.cut ≡ length r.board.timeline.entries + t.added
-    → Flushed last.first first → Flushed last.second second → IsTurn n b until x quota r (record last { first = first; second = second; totals = totals }) t
-is_turn n b until x quota r last first second totals t g s most whole left long f1 f2 =
+pub is_turn : (n : Network) (b : Bands) (until : ℕ) (x : Base) (quota : ℕ) (r last : Region) (totals : Totals) (t : Turn) → IsRegion n b until x r → Works n b until x quota r t.added t.taken (max 1 t.added) last → t.added ≤ quota → (t.empty ≡ false → t.added ≡ quota)
+    → MatchBool t.empty (IsAtEnd n b until x last) (HasEntryLeft n b until x last) → length last.board.timeline.entries + t.cut ≡ length r.board.timeline.entries + t.added → AreSent r last → IsTurn n b until x quota r (record last { totals = totals }) t
+is_turn n b until x quota r last totals t g s most whole left long sent =
     let w = world_at n b until x in
     let h = s.hears in
-    let same1 = flushed_other last.first first f1 in
-    let same2 = flushed_other last.second second f2 in
-    let part = same_parts n b until x last first second same1 same2 in
     let all = lengths w x.floor r.id (part_of r) s.steps in
     let now : length (part_of last).timeline ≡ length (Part.timeline (part_run w x.floor r.id (part_of r) s.steps)) = ap (λ (p : Part). length p.timeline) h.run.part in
     let e1 = events_length last.board.timeline.entries in
@@ -279,19 +280,20 @@ is_turn n b until x quota r last first second totals t g s most whole left long 
     let is_cut : t.cut ≡ cut_in w x.floor r.id (part_of r) s.steps = omega (arith, all, now, e1, e2, long, s.adds) in
     record {
       steps = s.steps;
-      run = run_to n b until x r last s.steps first second totals same1 same2 (flushed_line last.first first f1) (flushed_line last.second second f2) g h.run;
+      run = run_to n b until x r last s.steps last.first last.second totals (λ l. refl) (λ l. refl) refl refl g h.run;
       counts = record { added = sym s.adds; taken = sym s.takes; cut = is_cut };
       most = s.few;
       ops1 = h.ops1;
       ops2 = h.ops2;
       asks1 = s.asks1;
       asks2 = s.asks2;
-      first = turned r.first last.first first h.ops1 s.asks1 h.first f1;
-      second = turned r.second last.second second h.ops2 s.asks2 h.second f2;
+      first = h.first;
+      second = h.second;
       takes = h.takes;
+      sent = sent;
       added = most;
       whole = whole;
-      empty = left_same n b until x last (record last { first = first; second = second; totals = totals }) t.empty refl part refl left;
+      empty = left;
       uncut = λ z. is_cut ∙ uncut w x.floor r.id (part_of r) s.steps (s.takes ∙ z);
       length = omega (arith, e1, e2, long);
       asked = λ d. let k = s.asked d in ((omega (arith, k.0), omega (arith, k.0)), (omega (arith, k.1), omega (arith, k.1)));

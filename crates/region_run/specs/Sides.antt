@@ -1,8 +1,8 @@
 -- What a region has of a neighbour.
-use Rattle.std.specs.Prelude.{◌≡◌, ℕ, zero, suc, ◌+◌, ◌≤◌, ◌==◌, ◌&&◌, ◌||◌, min, Bool, false, List, [], ◌∷◌, ◌++◌, length, Option, Some, None, if◌then◌else◌}
+use Rattle.std.specs.Prelude.{◌≡◌, ℕ, zero, suc, ◌+◌, ◌≤◌, ◌==◌, ◌&&◌, min, Bool, false, List, [], ◌∷◌, ◌++◌, length, Option, Some, None, if◌then◌else◌}
 use Rattle.surf_kinds.specs.declared.event.Event.{Event}
 use Rattle.surf_kinds.specs.declared.event.Key.{Key}
-use Rattle.surf_kinds.specs.Keys.{key_of, keep, from}
+use Rattle.surf_kinds.specs.Keys.{is_before, key_of, keep, from}
 use Rattle.regions.specs.Bands.{Bands, owner_of}
 use Rattle.regions.specs.Seen.{is_told}
 use Rattle.border.specs.declared.op.Op.{Op}
@@ -142,17 +142,23 @@ abbrev pub is_side_told : Bands → Option SideView → ℕ → Bool
 is_side_told b None p = false
 is_side_told b (Some s) p = is_told b s.other p
 
--- the keys of own places of which one of two neighbours is told
-abbrev pub is_own_told : Bands → ℕ → Option SideView → Option SideView → Key → Bool
-is_own_told b id first second k = (owner_of b k.place.0 == id) && (is_side_told b first k.place.0 || is_side_told b second k.place.0)
+-- the keys of own places of which a neighbour is told
+abbrev pub is_own_told : Bands → ℕ → Option SideView → Key → Bool
+is_own_told b id side k = (owner_of b k.place.0 == id) && is_side_told b side k.place.0
 
 abbrev pub first_key : List Event → Option Key
 first_key [] = None
 first_key (e ∷ es) = Some (key_of e)
 
--- the key of the first own event from a key on that one of two neighbours was told of
-abbrev pub first_told_of : Bands → ℕ → Option SideView → Option SideView → Key → List Event → Option Key
-first_told_of b id first second key es = first_key (keep (is_own_told b id first second) (from key es))
+-- the key of the first own event from a key on that a neighbour was told of
+abbrev pub first_told_of : Bands → ℕ → Option SideView → Key → List Event → Option Key
+first_told_of b id side key es = first_key (keep (is_own_told b id side) (from key es))
+
+-- the lesser of two keys, or the one that there is
+abbrev pub lesser_key : Option Key → Option Key → Option Key
+lesser_key None b = b
+lesser_key (Some a) None = Some a
+lesser_key (Some a) (Some b) = if is_before b a then Some b else Some a
 
 -- where a neighbour was told, a Back with the least key that any was told of
 abbrev pub back_of : Option Key → Option Key → List Op

@@ -6,7 +6,8 @@ use Rattle.regions.specs.Bands.{Bands}
 use Rattle.border.specs.declared.op.Op.{Op}
 use Rattle.warp_core.specs.World.{end_key}
 use Rattle.warp_core.specs.Parts.{PartStep, IsNextEntry, HasNoEntry, run_takes}
-use Rattle.region_run.specs.Sides.{SideView, is_other, asked_after, Exchanged}
+use Rattle.region_run.specs.Sides.{SideView, is_other, Exchanged}
+use Rattle.region_run.specs.Channels.{IsSentOut}
 use Rattle.region_run.specs.Regions.{Base, world_at, part_of, line_to, ends_with}
 use Rattle.region_run.specs.Runs.{MakesRun}
 use Rattle.region_run.specs.Counts.{added_in, taken_in, cut_in}
@@ -33,33 +34,21 @@ pub record CountsSteps (n : Network) (b : Bands) (until : ℕ) (x : Base) (old :
   pub taken : t.taken ≡ taken_in steps
   pub cut : t.cut ≡ cut_in (world_at n b until x) x.floor old.id (part_of old) steps
 
--- The in end handed out these messages while it was asked so often, and the out end was sent what its kept number showed free, or all that waited.
-pub record EndsTurned (e : Ends) (outbox : List Op) (ops : List Op) (asks : ℕ) (f : Ends) : Type 0 where
-  pub out_ring : f.out.ring ≡ e.out.ring
-  pub in_ring : f.inn.ring ≡ e.inn.ring
-  pub out_slots : f.out.slots ≡ e.out.slots
-  pub in_slots : f.inn.slots ≡ e.inn.slots
-  pub received : f.inn.received ≡ e.inn.received ++ ops
-  pub asked : f.inn.asked ≡ asked_after e.inn.asked asks
-  pub free : length e.out.sent + e.out.free ≤ length f.out.sent + f.out.free
-  pub sent : (outbox ≡ []) ⊎ (length e.out.sent + e.out.free ≤ length f.out.sent)
+-- of a neighbour's messages all that waited was sent, or as much as was known free, where there is a ring
+abbrev pub RingSent : Option Ends → List Op → Option Ends → Type 0
+RingSent None outbox None = Unit {0}
+RingSent (Some e) outbox (Some f) = IsSentOut e outbox f
+RingSent None outbox (Some f) = ⊥
+RingSent (Some e) outbox None = ⊥
 
-abbrev pub RingTurned : Option Ends → List Op → List Op → ℕ → Option Ends → Type 0
-RingTurned None outbox ops asks None = ops ≡ []
-RingTurned (Some e) outbox ops asks (Some f) = EndsTurned e outbox ops asks f
-RingTurned None outbox ops asks (Some f) = ⊥
-RingTurned (Some e) outbox ops asks None = ⊥
+abbrev pub IsSent : Option SideView → Option SideView → Type 0
+IsSent None None = Unit {0}
+IsSent (Some s) (Some t) = RingSent s.ends t.outbox t.ends
+IsSent None (Some t) = ⊥
+IsSent (Some s) None = ⊥
 
-pub record SideTurned (s : SideView) (ops : List Op) (asks : ℕ) (t : SideView) : Type 0 where
-  pub other : t.other ≡ s.other
-  pub ring : RingTurned s.ends t.outbox ops asks t.ends
-
--- what a turn left of a neighbour, where there is one
-abbrev pub Turned : Option SideView → List Op → ℕ → Option SideView → Type 0
-Turned None ops asks None = ops ≡ []
-Turned (Some s) ops asks (Some t) = SideTurned s ops asks t
-Turned None ops asks (Some t) = ⊥
-Turned (Some s) ops asks None = ⊥
+abbrev pub AreSent : Region → Region → Type 0
+AreSent old new = IsSent old.first new.first × IsSent old.second new.second
 
 -- an entry is left up to the end
 abbrev pub HasEntryLeft : Network → Bands → ℕ → Base → Region → Type 0
@@ -84,9 +73,11 @@ pub record IsTurn (n : Network) (b : Bands) (until : ℕ) (x : Base) (quota : �
   pub ops2 : List Op
   pub asks1 : ℕ
   pub asks2 : ℕ
-  pub first : Turned old.first ops1 asks1 new.first
-  pub second : Turned old.second ops2 asks2 new.second
+  pub first : Exchanged old.first ops1 asks1 new.first
+  pub second : Exchanged old.second ops2 asks2 new.second
   pub takes : (l : ℕ) → run_takes steps l ≡ handed_out old.first old.second ops1 ops2 l
+  -- each ring took what it was known to have room for, or all that waited
+  pub sent : AreSent old new
   -- exactly quota entries are added, or fewer where nothing is left
   pub added : t.added ≤ quota
   pub whole : t.empty ≡ false → t.added ≡ quota

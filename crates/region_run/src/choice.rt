@@ -3,19 +3,20 @@
 ghost use Rattle.std.specs.Prelude.{◌≡◌, drop};
 ghost use Rattle.surf_kinds.specs.Keys.{from, RiseStrictly};
 ghost use Rattle.timeline.specs.TimelineView.{events_of};
-ghost use Rattle.region_run.specs.Choices.{better_of as better_of_two, first_of};
+ghost use Rattle.warp_core.specs.Choices.{earlier_due_of};
+ghost use Rattle.region_run.specs.Choices.{first_of};
 
 use surf_kinds::{Event, Key};
 use timeline::Entry;
 
-/// The better of two events: of those from the clock on, up to the end, the one of the lesser key.
-pub(crate) fn better_of(
+/// The earlier of two events; one before the clock or after the end doesn't count.
+pub(crate) fn earlier_due(
     best: Option<Event>,
     event: Option<Event>,
     clock: Key,
     until: u64,
 ) -> Option<Event>
-    ensures { result ≡ better_of_two clock until best event }
+    ensures { result ≡ earlier_due_of clock until best event }
 {
     let Some(event) = event else {
         return best;

@@ -4,9 +4,9 @@ ghost use Rattle.std.specs.Prelude.{◌≡◌};
 ghost use Rattle.region_run.specs.Sides.{is_other};
 
 use crate::board::Board;
-use crate::choice::{better_of, first_from};
+use crate::choice::{earlier_due, first_from};
 use crate::side::Side;
-use crate::telling::{accepted, first_told, take_back, tell};
+use crate::telling::{accepted, first_told, lesser, take_back, tell};
 use crate::totals::Totals;
 use border::{Op, Stacks};
 use plan::Plan;
@@ -83,11 +83,11 @@ impl Region {
         ensures some { (n : Network) (b : Bands) (x : Base) → IsRegion n b until x self.now → IfSome result (λ e. IsNextEntry (world_at n b until x) x.surface.sites self.now.id (part_of self.now) e) }
         ensures none { (n : Network) (b : Bands) (x : Base) → IsRegion n b until x self.now → IfNone result (HasNoEntry (world_at n b until x) x.surface.sites self.now.id (part_of self.now)) }
     {
-        let own = better_of(None, self.board.queue.least(), self.clock, until);
+        let own = earlier_due(None, self.board.queue.least(), self.clock, until);
         let first = first_from(self.stacks.of(0), self.clock);
-        let best = better_of(own, first, self.clock, until);
+        let best = earlier_due(own, first, self.clock, until);
         let second = first_from(self.stacks.of(1), self.clock);
-        better_of(best, second, self.clock, until)
+        earlier_due(best, second, self.clock, until)
     }
 
     /// The key of the next entry up to the end, or the end key, `(until + 1, 0)`.
@@ -178,11 +178,10 @@ impl Region {
         if !key.is_before(self.clock) {
             return 0;
         }
-        let none = None;
         let entries = self.board.timeline.entries();
-        let least = first_told(cut, self.id, entries, key, &self.first, &self.second);
-        let to_first = first_told(cut, self.id, entries, key, &self.first, &none);
-        let to_second = first_told(cut, self.id, entries, key, &self.second, &none);
+        let to_first = first_told(cut, self.id, entries, key, &self.first);
+        let to_second = first_told(cut, self.id, entries, key, &self.second);
+        let least = lesser(to_first, to_second);
         take_back(&mut self.first, to_first, least);
         take_back(&mut self.second, to_second, least);
         self.clock = key;

@@ -6,7 +6,7 @@ ghost use Rattle.surf_kinds.specs.Keys.{RiseStrictly};
 ghost use Rattle.lattice.specs.Places.{IsPlace};
 ghost use Rattle.timeline.specs.TimelineView.{events_of};
 ghost use Rattle.warp_core.specs.Grounds.{ArePlaces};
-ghost use Rattle.region_run.specs.Sides.{HasRoom, Gained, Asked, event_puts, is_side_told, first_told_of, back_of};
+ghost use Rattle.region_run.specs.Sides.{HasRoom, Gained, Asked, event_puts, is_side_told, first_told_of, lesser_key, back_of};
 ghost use Rattle.region_run.specs.Messages.{partition_at};
 
 use crate::choice::count_before;
@@ -41,50 +41,55 @@ pub(crate) fn tell(cut: &Cut, own: bool, side: &mut Option<Side>, event: Event)
     }
 }
 
-/// The key of the first own entry from a key on that one of two neighbours was told of. Entries before the key aren't
-/// looked at, but for a number that goes with the logarithm of how many there are.
+/// The key of the first own entry from a key on that a neighbour was told of. Entries before the key aren't looked at,
+/// but for a number that goes with the logarithm of how many there are.
 pub(crate) fn first_told(
     cut: &Cut,
     id: u32,
     entries: &[Entry],
     key: Key,
-    first: &Option<Side>,
-    second: &Option<Side>,
+    side: &Option<Side>,
 ) -> Option<Key>
     requires places { ArePlaces cut.now.lattice entries.now }
     requires rise { RiseStrictly (events_of entries.now) }
-    ensures { result ≡ first_told_of cut.now id first.now second.now key (events_of entries.now) }
+    ensures { result ≡ first_told_of cut.now id side.now key (events_of entries.now) }
 {
     let start = count_before(entries, key);
     for i in start..entries.len() {
-        if let Some(here) = told_from(cut, id, &entries[i], key, first, second) {
+        if let Some(here) = told_from(cut, id, &entries[i], key, side) {
             return Some(here);
         }
     }
     None
 }
 
-/// The key of an own entry that one of two neighbours was told of, if it is from this key on.
-fn told_from(
-    cut: &Cut,
-    id: u32,
-    entry: &Entry,
-    key: Key,
-    first: &Option<Side>,
-    second: &Option<Side>,
-) -> Option<Key>
+/// The key of an own entry that a neighbour was told of, if it is from this key on.
+fn told_from(cut: &Cut, id: u32, entry: &Entry, key: Key, side: &Option<Side>) -> Option<Key>
     requires { IsPlace cut.now.lattice entry.now.before.event.place.0 }
-    ensures { result ≡ first_told_of cut.now id first.now second.now key (events_of (entry.now ∷ [])) }
+    ensures { result ≡ first_told_of cut.now id side.now key (events_of (entry.now ∷ [])) }
 {
     let event = entry.before.event;
     let here = event.key();
     if here.is_before(key) || cut.owner(event.place) != id {
         return None;
     }
-    if is_side_told(cut, &event, first) || is_side_told(cut, &event, second) {
+    if is_side_told(cut, &event, side) {
         return Some(here);
     }
     None
+}
+
+/// The lesser of two keys, or the one that there is.
+pub(crate) fn lesser(one: Option<Key>, other: Option<Key>) -> Option<Key>
+    ensures { result ≡ lesser_key one other }
+{
+    let Some(here) = one else {
+        return other;
+    };
+    match other {
+        Some(there) if there.is_before(here) => other,
+        _ => one,
+    }
 }
 
 /// Puts a Back for a neighbour, if it was told of what goes.

@@ -37,7 +37,7 @@ impl Region {
     ghost use Rattle.regions.specs.Bands.{Bands};
     ghost use Rattle.region_run.specs.Regions.{Base, IsRegion};
     ghost use Rattle.region_run.specs.Runs.{HasSpare};
-    ghost use Rattle.region_run.specs.Turns.{IsAtEnd, HasEntryLeft, IsTurn};
+    ghost use Rattle.region_run.specs.Turns.{AreSent, IsAtEnd, HasEntryLeft, IsTurn};
     ghost use Rattle.region_run.specs.Hearing.{Asks, Works};
     ghost use Rattle.region_run.specs.Counts.{with_turn};
 
@@ -124,6 +124,7 @@ impl Region {
         ensures works { (x : Base) → IsRegion plan.now cut.now until x self.old → Works plan.now cut.now until x most self.old (if result.1 then 1 else 0) result.0 1 self.new }
         ensures few { result.0 ≤ most }
         ensures end { (x : Base) → IsRegion plan.now cut.now until x self.old → result.1 ≡ false → IsAtEnd plan.now cut.now until x self.new }
+        ensures sent { AreSent self.old self.new }
         ensures totals { self.new.totals ≡ self.old.totals }
         ensures spare { (m : ℕ) → HasSpare (m + (result.0 + 1)) self.old → HasSpare m self.new }
     {
@@ -142,8 +143,8 @@ impl Region {
         }
     }
 
-    /// Hears before each entry, and adds so many entries, or fewer where nothing is left; then the clock is the end key.
-    /// Answers how many entries were added, and how many messages were taken: as many at most.
+    /// Hears before each entry, adds so many entries, or fewer where nothing is left, and sends after each; where nothing
+    /// is left the clock is the end key. Answers how many entries were added, and how many messages were taken: as many at most.
     fn add_entries(&mut self, plan: &Plan, cut: &Cut, quota: u64, until: u64) -> (u64, u64)
         requires region { (x : Base) × IsRegion plan.now cut.now until x self.old }
         requires at_least { 1 ≤ quota }
@@ -151,6 +152,7 @@ impl Region {
         ensures works { (x : Base) → IsRegion plan.now cut.now until x self.old → Works plan.now cut.now until x quota self.old result.0 result.1 (max 1 result.0) self.new }
         ensures most { result.0 ≤ quota }
         ensures end { (x : Base) → IsRegion plan.now cut.now until x self.old → result.0 < quota → IsAtEnd plan.now cut.now until x self.new }
+        ensures sent { AreSent self.old self.new }
         ensures totals { self.new.totals ≡ self.old.totals }
     {
         let mut added = 0;
@@ -173,6 +175,7 @@ impl Region {
         ensures works { (n : Network) (b : Bands) (x : Base) → IsRegion n b until x self.old → Works n b until x 0 self.old 0 0 0 self.new }
         ensures left { (n : Network) (b : Bands) (x : Base) → IsRegion n b until x self.old → MatchBool result (IsAtEnd n b until x self.new) (HasEntryLeft n b until x self.new) }
         ensures same { result ≡ false → self.new ≡ self.old }
+        ensures sides { (self.new.first ≡ self.old.first) × (self.new.second ≡ self.old.second) }
         ensures totals { self.new.totals ≡ self.old.totals }
     {
         match self.next_entry(until) {
@@ -201,8 +204,6 @@ impl Region {
         let (added, taken) = self.add_entries(plan, cut, u64::from(quota), until);
         let empty = self.end(until);
         let after = self.entry_count();
-        flush_side(&mut self.first);
-        flush_side(&mut self.second);
         let turn = Turn {
             added,
             taken,

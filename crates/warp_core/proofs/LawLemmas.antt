@@ -2,7 +2,7 @@
 pub use Rattle.warp_core.proofs.Theory.Locals.{only_one, cut}
 pub use Rattle.warp_core.proofs.Theory.Moves.{first_consistent}
 pub use Rattle.warp_core.proofs.Theory.Runs.{step_keeps, steps_keep, core_law, committed_law, step_grows, steps_grow}
-pub use Rattle.warp_core.proofs.Theory.PartRuns.{runs, round_keeps, sound_rebased, sound_raised, next_rebased, none_rebased}
+pub use Rattle.warp_core.proofs.Theory.PartRuns.{runs, round_keeps, sound_rebased, sound_raised, next_rebased, none_rebased, run_rebased}
 pub use Rattle.warp_core.proofs.Theory.Later.{offers_late}
 pub use Rattle.warp_core.proofs.Simulation.Instance.{is_world, is_monotone, same_after_all}
 pub use Rattle.warp_core.proofs.Theory.Delivers.{take_falls}
@@ -22,3 +22,6 @@ pub use Rattle.warp_core.proofs.Machine.Ground.{sites-append, ground_sites, grou
 pub use Rattle.warp_core.proofs.Machine.Fitting.{products_below}
 pub use Rattle.warp_core.proofs.Machine.First.{fresh_sites}
 pub use Rattle.warp_core.proofs.Machine.Scans.{place_at}
+-- How the next entry is found.
+pub use Rattle.warp_core.proofs.Machine.Chosen.{IsBest, best_start, best_from, best_next, best_none}
+pub use Rattle.warp_core.proofs.Machine.Homes.{puts_at}

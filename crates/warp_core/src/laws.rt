@@ -93,14 +93,14 @@ pub fn runs_join()
         → IsConsistent w (record c { part = λ i. part_run w c.horizon i (c.part i) (steps i); channel = channel }) }
 {}
 
-/// A part that is sound for one base is sound for every base that agrees with it at the sites that the region sees, and
-/// has the same next entry. A
-/// part whose floor moves up to a key that is at most its clock, and that forgets the entries below the key, is sound
-/// for the surface after these.
+/// A part that is sound for one base is sound for every base that agrees with it at the sites that the region sees, has
+/// the same next entry, and may make the same runs. A part whose floor moves up to a key that is at most its clock, and
+/// that forgets the entries below the key, is sound for the surface after these.
 pub fn a_base_may_move()
     ensures agree { (w : World) → IsWorld w → (i : ℕ) (a b : List SiteState) (floor : Key) (p : Part) → Agree w i a b → IsSound w a floor i p → IsSound w b floor i p }
     ensures next { (w : World) → IsWorld w → (i : ℕ) (a b : List SiteState) (p : Part) (e : Event) → Agree w i a b → IsNextEntry w a i p e → IsNextEntry w b i p e }
     ensures none { (w : World) → IsWorld w → (i : ℕ) (a b : List SiteState) (p : Part) → Agree w i a b → HasNoEntry w a i p → HasNoEntry w b i p }
+    ensures run { (w : World) → IsWorld w → (a b : List SiteState) (floor : Key) (i : ℕ) (p : Part) (steps : List PartStep) → Agree w i a b → MayRun w a floor i p steps → MayRun w b floor i p steps }
     ensures raised { (w : World) (i : ℕ) (base : List SiteState) (floor key : Key) (p : Part) → floor is_upto key → key is_upto p.clock
         → IsSound w base floor i p → IsSound w (after_all w base (below key p.timeline)) key i (record p { timeline = from key p.timeline }) }
     ensures committed { (w : World) → IsWorld w → (c : Core) (key : Key) → IsConsistent w c → MayCommit w c key → (i : ℕ) → i < w.regions → (a : List SiteState) → Agree w i a (base_of w c)

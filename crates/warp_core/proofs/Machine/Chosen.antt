@@ -9,7 +9,7 @@ use Rattle.surf_kinds.specs.declared.event.Key.{Key}
 use Rattle.surf_kinds.specs.declared.site.Sites.{Sites}
 use Rattle.surf_kinds.specs.declared.site.SiteState.{SiteState}
 use Rattle.surf_kinds.specs.Keys.{is_before, same_key, key_of, at, AllKeys, IsRising, ◌is_upto◌, ◌is_below◌}
-use Rattle.surf_kinds.proofs.Order.{le_refl, lt_le, lt_to_le, lt_not_le, same_refl, same_is, above_not_same}
+use Rattle.surf_kinds.proofs.Order.{le_refl, lt_le, le_le, lt_to_le, lt_not_le, same_refl, same_is, above_not_same}
 use Rattle.surf_kinds.proofs.Tables.{none_or_some}
 use Rattle.lattice.specs.Places.{sites_of}
 use Rattle.lattice.proofs.LawLemmas.{place_below}
@@ -30,7 +30,7 @@ pub record IsBest (due : Key → Option Event) (clock : Key) (until : ℕ) (seen
   pub is_due : (b : Event) → best ≡ Some b → (clock is_upto key_of b) × (b.time ≤ until) × (due (key_of b) ≡ Some b)
   pub least : (k : Key) (f : Event) → seen k → clock is_upto k → k.time ≤ until → due k ≡ Some f → (b : Event) × (best ≡ Some b) × (key_of b is_upto k)
 
-best_start : (due : Key → Option Event) (clock : Key) (until : ℕ) (seen : Key → Type 0) → ((k : Key) → seen k → ⊥) → IsBest due clock until seen None
+pub best_start : (due : Key → Option Event) (clock : Key) (until : ℕ) (seen : Key → Type 0) → ((k : Key) → seen k → ⊥) → IsBest due clock until seen None
 best_start due clock until seen none = record { is_due = λ b h. absurd (none-some b h); least = λ k f s c t d. absurd (none k s) }
 
 -- more keys are seen, at which nothing further is due
@@ -44,9 +44,13 @@ beaten (Some b) e h = (b, refl, h)
 beats_is : (best : Option Event) (e b : Event) → beats best e ≡ true → best ≡ Some b → key_of e is_below key_of b
 beats_is best e b h is = ap (λ o. beats o e) (sym is) ∙ h
 
--- the key of one further event is seen
-best_more : (due : Key → Option Event) (clock : Key) (until : ℕ) (seen more : Key → Type 0) (best : Option Event) (e : Event) → IsBest due clock until seen best → due (key_of e) ≡ Some e → ((k : Key) (f : Event) → more k → due k ≡ Some f → seen k ⊎ (k ≡ key_of e)) → IsBest due clock until more (earlier_due clock until best e)
-best_more due clock until seen more best e b here h =
+upto_time : (a b : Key) → a is_upto b → a.time ≤ b.time
+upto_time a b h = grind (arith, nat_tests)
+
+-- one further event is seen, and what comes after it
+pub best_from : (due : Key → Option Event) (clock : Key) (until : ℕ) (seen more : Key → Type 0) (best : Option Event) (e : Event) → IsBest due clock until seen best → due (key_of e) ≡ Some e
+    → ((k : Key) (f : Event) → more k → clock is_upto k → due k ≡ Some f → seen k ⊎ ((clock is_upto key_of e) × (key_of e is_upto k))) → IsBest due clock until more (earlier_due clock until best e)
+best_from due clock until seen more best e b here h =
     elim (cases_Bool (counts clock until e && beats best e)) [
       | inl p ↦
           let both = and_parts (counts clock until e) (beats best e) p in
@@ -54,26 +58,34 @@ best_more due clock until seen more best e b here h =
           subst (IsBest due clock until more) (sym (ap (λ t. cond t (Some e) best) p))
           (record {
             is_due = λ x is. subst (λ (y : Event). (clock is_upto key_of y) × (y.time ≤ until) × (due (key_of y) ≡ Some y)) (same_Some e x is) (not-true (is_before (key_of e) clock) fit.0, leb-true e.time until fit.1, here);
-            least = λ k f s c t d. elim (h k f s d) [
+            least = λ k f s c t d. elim (h k f s c d) [
               | inl q ↦ let old = b.least k f q c t d in (e, refl, lt_to_le (key_of e) k (lt_le (key_of e) (key_of old.0) k (beats_is best e old.0 both.1 old.1) old.2))
-              | inr q ↦ (e, refl, subst (λ j. key_of e is_upto j) (sym q) (le_refl (key_of e)))
+              | inr q ↦ (e, refl, q.1)
             ];
           })
       | inr p ↦
           subst (IsBest due clock until more) (sym (ap (λ t. cond t (Some e) best) p))
           (record {
             is_due = b.is_due;
-            least = λ k f s c t d. elim (h k f s d) [
+            least = λ k f s c t d. elim (h k f s c d) [
               | inl q ↦ b.least k f q c t d
               | inr q ↦
-                  let c' : clock is_upto key_of e = subst (λ j. clock is_upto j) q c in
-                  let t' : e.time ≤ until = subst (λ (j : Key). j.time ≤ until) q t in
-                  let use' : counts clock until e ≡ true = and_from (not (is_before (key_of e) clock)) (nat_le e.time until) (not_from_false (is_before (key_of e) clock) c') (le-leb e.time until t') in
+                  let early : e.time ≤ until = omega (arith, upto_time (key_of e) k q.1, t) in
+                  let use' : counts clock until e ≡ true = and_from (not (is_before (key_of e) clock)) (nat_le e.time until) (not_from_false (is_before (key_of e) clock) q.0) (le-leb e.time until early) in
                   let old = beaten best e (elim (and_cases (counts clock until e) (beats best e) p) [ inl r ↦ absurd (both_ways (counts clock until e) r use') | inr r ↦ r ]) in
-                  (old.0, old.1, subst (λ j. key_of old.0 is_upto j) (sym q) old.2)
+                  (old.0, old.1, le_le (key_of old.0) (key_of e) k old.2 q.1)
             ];
           })
     ]
+
+-- the key of one further event is seen
+best_more : (due : Key → Option Event) (clock : Key) (until : ℕ) (seen more : Key → Type 0) (best : Option Event) (e : Event) → IsBest due clock until seen best → due (key_of e) ≡ Some e → ((k : Key) (f : Event) → more k → due k ≡ Some f → seen k ⊎ (k ≡ key_of e)) → IsBest due clock until more (earlier_due clock until best e)
+best_more due clock until seen more best e b here h =
+    best_from due clock until seen more best e b here
+    (λ k f s c d. elim (h k f s d) [
+      | inl q ↦ inl q
+      | inr q ↦ inr (subst (λ j. clock is_upto j) q c, subst (λ j. key_of e is_upto j) (sym q) (le_refl (key_of e)))
+    ])
 
 time_le : (a b : Key) → a is_below b → a.time ≤ b.time
 time_le a b h = grind (arith, nat_tests)
@@ -82,7 +94,7 @@ time_end : (a : Key) (until : ℕ) → is_before a (record { time = until + 1; p
 time_end a until h = grind (arith, nat_tests)
 
 -- where all keys are seen the best is the next, and without one nothing is due
-best_next : (w : World) (mine : Key → Bool) (ins : Key → Option Event) (sites : List SiteState) (clock : Key) (seen : Key → Type 0) (best : Option Event) → IsBest (due_at w mine ins sites) clock w.until seen best → ((k : Key) (f : Event) → due_at w mine ins sites k ≡ Some f → seen k) → (b : Event) → best ≡ Some b → IsNext w mine ins sites clock b
+pub best_next : (w : World) (mine : Key → Bool) (ins : Key → Option Event) (sites : List SiteState) (clock : Key) (seen : Key → Type 0) (best : Option Event) → IsBest (due_at w mine ins sites) clock w.until seen best → ((k : Key) (f : Event) → due_at w mine ins sites k ≡ Some f → seen k) → (b : Event) → best ≡ Some b → IsNext w mine ins sites clock b
 best_next w mine ins sites clock seen best x all b is =
     let d = x.is_due b is in
     record {
@@ -97,7 +109,7 @@ best_next w mine ins sites clock seen best x all b is =
       ];
     }
 
-best_none : (w : World) (mine : Key → Bool) (ins : Key → Option Event) (sites : List SiteState) (clock : Key) (seen : Key → Type 0) (best : Option Event) → IsBest (due_at w mine ins sites) clock w.until seen best → ((k : Key) (f : Event) → due_at w mine ins sites k ≡ Some f → seen k) → best ≡ None → IsNothingDue w mine ins sites clock
+pub best_none : (w : World) (mine : Key → Bool) (ins : Key → Option Event) (sites : List SiteState) (clock : Key) (seen : Key → Type 0) (best : Option Event) → IsBest (due_at w mine ins sites) clock w.until seen best → ((k : Key) (f : Event) → due_at w mine ins sites k ≡ Some f → seen k) → best ≡ None → IsNothingDue w mine ins sites clock
 best_none w mine ins sites clock seen best x all is k c u =
     elim (none_or_some (due_at w mine ins sites k)) [
       | inl none ↦ none

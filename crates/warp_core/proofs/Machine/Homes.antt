@@ -62,7 +62,7 @@ puts_owned : (w : World) (j i : ℕ) (es : List Event) → ArePutsOf w j i es �
 puts_owned w j i [] a = tt
 puts_owned w j i (e ∷ es) a = (eqb-true (w.owner e.place.0) j a.0.owned, puts_owned w j i es a.1)
 
-puts_at : (w : World) (j i : ℕ) (k : Key) (es : List Event) (e : Event) → ArePutsOf w j i es → at k es ≡ Some e → IsPutOf (partition_of w) j i e
+pub puts_at : (w : World) (j i : ℕ) (k : Key) (es : List Event) (e : Event) → ArePutsOf w j i es → at k es ≡ Some e → IsPutOf (partition_of w) j i e
 puts_at w j i k [] e a h = absurd (none-some e h)
 puts_at w j i k (x ∷ es) e a h =
     elim (cases_Bool (same_key (key_of x) k)) [

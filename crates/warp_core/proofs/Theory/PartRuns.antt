@@ -95,3 +95,14 @@ sound_rebased w laws i a b floor p h s = record { low = s.low; high = s.high; lo
 -- a part whose floor moves to a key that is at most its clock, and that forgets the entries below it, is sound for the surface after these
 pub sound_raised : (w : World) (i : ℕ) (base : List SiteState) (floor k : Key) (p : Part) → floor is_upto k → k is_upto p.clock → IsSound w base floor i p → IsSound w (after_all w base (below k p.timeline)) k i (record p { timeline = from k p.timeline })
 sound_raised w i base floor k p h under s = record { low = under; high = s.high; local = raised w (is_own w i) base floor k (received_at w p) p.clock p.timeline h s.local }
+
+step_rebased : (w : World) → IsWorld w → (a b : List SiteState) (i : ℕ) (p : Part) (step : PartStep) → Agree w i a b → MayStep w a i p step → MayStep w b i p step
+step_rebased w laws a b i p (PartStep.Fires e) h m = (next_rebased w laws i a b p e h m.0, m.1)
+step_rebased w laws a b i p (PartStep.Passes e) h m = (next_rebased w laws i a b p e h m.0, m.1)
+step_rebased w laws a b i p PartStep.Ends h m = none_rebased w laws i a b p h m
+step_rebased w laws a b i p (PartStep.Takes j op) h m = m
+
+-- a run over one base is one over each that agrees with it
+pub run_rebased : (w : World) → IsWorld w → (a b : List SiteState) (floor : Key) (i : ℕ) (p : Part) (steps : List PartStep) → Agree w i a b → MayRun w a floor i p steps → MayRun w b floor i p steps
+run_rebased w laws a b floor i p [] h m = tt
+run_rebased w laws a b floor i p (step ∷ steps) h m = (step_rebased w laws a b i p step h m.0, run_rebased w laws a b floor i (part_after w floor i p step) steps h m.1)

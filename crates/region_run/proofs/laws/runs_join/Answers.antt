@@ -1,7 +1,6 @@
 use Rattle.warp_core.specs.Cores.{base_of}
-use Rattle.warp_core.proofs.LawLemmas.{round_keeps}
+use Rattle.warp_core.proofs.LawLemmas.{round_keeps, run_rebased}
 use Rattle.region_run.specs.Regions.{world_at}
-use Rattle.region_run.proofs.Joining.{run_rebased}
 use Rattle.region_run.proofs.laws.runs_join.Goals as goal
 
 pub returns : goal.returns

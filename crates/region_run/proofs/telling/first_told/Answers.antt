@@ -8,4 +8,4 @@ pub told_from-requires : goal.told_from-requires
 told_from-requires c = place_at c.args.cut.now.lattice c.args.entries.now c.loop-i.i _ c.requires.places (omega arith)
 
 pub loop-i-init : goal.loop-i-init
-loop-i-init c = ap (λ es. first_key (keep (is_own_told c.args.cut.now c.args.id c.args.first.now c.args.second.now) es)) c.count_before-start.ensures
+loop-i-init c = ap (λ es. first_key (keep (is_own_told c.args.cut.now c.args.id c.args.side.now) es)) c.count_before-start.ensures

@@ -1,4 +1,4 @@
-use Rattle.warp_core.proofs.LawLemmas.{sound_rebased, sound_raised, next_rebased, none_rebased, own_base_kept}
+use Rattle.warp_core.proofs.LawLemmas.{sound_rebased, sound_raised, next_rebased, none_rebased, run_rebased, own_base_kept}
 use Rattle.warp_core.proofs.laws.a_base_may_move.Goals as goal
 
 pub returns-clause-agree : goal.returns-clause-agree
@@ -15,3 +15,6 @@ returns-clause-raised c = sound_raised
 
 pub returns-clause-committed : goal.returns-clause-committed
 returns-clause-committed c = λ w laws core key good may. own_base_kept w laws core key good may
+
+pub returns-clause-run : goal.returns-clause-run
+returns-clause-run c = run_rebased

@@ -1,7 +1,7 @@
 use Rattle.std.proofs.Common.{◌+◌, ◌-◌, ◌*◌, ◌∙◌, ap, arith, refl, ℕ, Bool, if◌then◌else◌}
 use Rattle.std.specs.Prelude.{max}
 use Rattle.region_run.proofs.Spares.{less}
-use Rattle.region_run.proofs.Works.{works_none, works_then}
+use Rattle.region_run.proofs.Works.{works_none, works_then, works_sent_on}
 use Rattle.region_run.proofs.region.Region.add_entries.Goals as goal
 
 pub loop-added-init : goal.loop-added-init
@@ -10,6 +10,7 @@ loop-added-init c =
       works = λ x g. works_none c.args.plan.now c.args.cut.now c.args.until x c.args.self.now c.args.quota g;
       few = omega arith;
       most = omega arith;
+      sent = λ h. absurd (omega (arith, h));
       totals = refl;
       spare = λ m h. less (m + (0 + 0)) m c.args.self.now (omega arith) h;
     }
@@ -36,6 +37,7 @@ loop-added-preserved c =
           g (omega (arith, one)) refl (omega (arith, c.add_one-heard.ensures.few, c.loop-added.invariant.few)) (λ p k h1 h2 h. omega (arith, h1, h2, h)) before (c.add_one-heard.ensures.works x before.hears.run.region);
       few = omega (arith, c.add_one-heard.ensures.few, c.loop-added.invariant.few);
       most = omega (arith, c.loop-added-test.true);
+      sent = λ h. let w = c.requires.region in works_sent_on c.args.plan.now c.args.cut.now c.args.until w.0 q a t a c.args.self.now c.loop-added.self c.add_one-heard.new.self (c.loop-added.invariant.works w.0 w.1) c.add_one-heard.ensures.sent;
       totals = c.add_one-heard.ensures.totals ∙ c.loop-added.invariant.totals;
       spare = λ m h. c.add_one-heard.ensures.spare m (c.loop-added.invariant.spare (m + (c.add_one-heard.result.0 + 1)) (less (m + (t + c.add_one-heard.result.0 + (a + 1))) (m + (c.add_one-heard.result.0 + 1) + (t + a)) c.args.self.now (omega arith) h));
     }
@@ -61,3 +63,11 @@ returns-clause-works c x g =
     let before = c.loop-added.invariant.works x g in
     works_then c.args.plan.now c.args.cut.now c.args.until x c.args.self.now c.loop-added.self c.loop-added.self q a t a 0 0 0 0 q a t (max 1 a) g (omega arith) (omega arith) c.loop-added.invariant.few
     (λ p k h1 h2 h. omega (arith, h1, h, c.loop-added-test.false, c.requires.at_least)) before (works_none c.args.plan.now c.args.cut.now c.args.until x c.loop-added.self 0 before.hears.run.region)
+
+pub returns-then-not-made-clause-sent : goal.returns-then-not-made-clause-sent
+returns-then-not-made-clause-sent c =
+    let w = c.requires.region in
+    works_sent_on c.args.plan.now c.args.cut.now c.args.until w.0 c.args.quota c.loop-added.added c.loop-added.taken c.loop-added.added c.args.self.now c.loop-added.self c.add_one-heard.new.self (c.loop-added.invariant.works w.0 w.1) c.add_one-heard.ensures.sent
+
+pub returns-clause-sent : goal.returns-clause-sent
+returns-clause-sent c = c.loop-added.invariant.sent (omega (arith, c.loop-added-test.false, c.requires.at_least))

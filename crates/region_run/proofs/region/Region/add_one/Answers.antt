@@ -1,6 +1,6 @@
 use Rattle.std.proofs.Common.{◌+◌, arith, if◌then◌else◌}
 use Rattle.region_run.proofs.Spares.{less}
-use Rattle.region_run.proofs.Works.{works_then, works_on, works_sent, on_to_end, flushed_end, flushed_spare}
+use Rattle.region_run.proofs.Works.{works_then, works_on, works_sent, on_to_end, flushed_end, flushed_spare, sent_after}
 use Rattle.region_run.proofs.region.Region.add_one.Goals as goal
 
 pub hear-taken-requires-clause-region : goal.hear-taken-requires-clause-region
@@ -41,3 +41,15 @@ pub returns-clause-spare : goal.returns-clause-spare
 returns-clause-spare c m h =
     flushed_spare c.step-made.new.self c.flush_side.new.side c.flush_side-2.new.side c.flush_side.ensures c.flush_side-2.ensures m
     (c.step-made.ensures.spare m (c.hear-taken.ensures.spare (m + 1) (less (m + (c.hear-taken.result + 1)) (m + 1 + c.hear-taken.result) c.args.self.now (omega arith) h)))
+
+pub returns-clause-sent : goal.returns-clause-sent
+returns-clause-sent c =
+    let w = c.requires.region in
+    let r = c.args.self.now in
+    let mid = c.hear-taken.new.self in
+    let last = c.step-made.new.self in
+    let heard = (c.hear-taken.ensures.works c.args.until w.0 w.1).hears in
+    let rings = c.step-made.ensures.rings in (
+      sent_after r.first mid.first last.first c.flush_side.new.side heard.ops1 _ heard.first rings.0 c.flush_side.ensures,
+      sent_after r.second mid.second last.second c.flush_side-2.new.side heard.ops2 _ heard.second rings.1 c.flush_side-2.ensures,
+    )

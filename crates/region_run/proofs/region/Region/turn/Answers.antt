@@ -1,6 +1,7 @@
-use Rattle.std.proofs.Common.{◌<◌, arith}
+use Rattle.std.proofs.Common.{◌<◌, sym, subst, arith}
 use Rattle.std.specs.Prelude.{max}
 use Rattle.region_run.specs.Hearing.{Works}
+use Rattle.region_run.specs.Turns.{IsSent, AreSent}
 use Rattle.region_run.proofs.Works.{works_then, no_longer, whole_quota, is_turn}
 use Rattle.region_run.proofs.region.Region.turn.Goals as goal
 
@@ -39,5 +40,7 @@ returns-clause-turn c x g =
     let left = c.end-empty.ensures.left n b x work.hears.run.region in
     let both : Works n b u x q r added taken (max 1 added) last = works_then n b u x r mid last p added taken (max 1 added) 0 0 0 0 q added taken (max 1 added) g (omega arith) (omega arith) (omega (arith, work.few)) (λ j k h1 h2 h. let few : taken < p = omega (arith, h) in let asked = h1 few in omega (arith, asked)) work rest in
     let long = no_longer n b u x q added taken (max 1 added) r last both in
-    is_turn n b u x q r last c.flush_side.new.side c.flush_side-2.new.side _ _ g both (omega (arith, c.add_entries-added.ensures.most)) (λ h. let all = whole_quota n b u x mid last added p c.end-empty.result c.add_entries-added.ensures.most (c.add_entries-added.ensures.end x g) c.end-empty.ensures.same left h in omega (arith, all)) left
-    (omega (arith, long, c.entry_count-before.ensures.count, c.entry_count-after.ensures.count)) c.flush_side.ensures c.flush_side-2.ensures
+    let sides = c.end-empty.ensures.sides in
+    let sent : AreSent r last = (subst (IsSent r.first) (sym sides.0) c.add_entries-added.ensures.sent.0, subst (IsSent r.second) (sym sides.1) c.add_entries-added.ensures.sent.1) in
+    is_turn n b u x q r last _ _ g both (omega (arith, c.add_entries-added.ensures.most)) (λ h. let all = whole_quota n b u x mid last added p c.end-empty.result c.add_entries-added.ensures.most (c.add_entries-added.ensures.end x g) c.end-empty.ensures.same left h in omega (arith, all)) left
+    (omega (arith, long, c.entry_count-before.ensures.count, c.entry_count-after.ensures.count)) sent
