@@ -2,11 +2,10 @@
 use Rattle.std.proofs.Common.{◌≡◌, ℕ, ◌+◌, ◌-◌, ◌*◌, ◌^◌, ◌<◌, ◌≤◌, true, ◌==◌, ◌⊎◌, inl, inr, List, [], ◌∷◌, ◌++◌, refl, sym, ap, ◌∙◌, subst, arith, append-nil, Option, Some, None, cond}
 use Rattle.std.specs.Prelude.{IsSome}
 use Rattle.std.proofs.lemmas.Bool.{cases_Bool, false≢true}
-use Rattle.std.proofs.lemmas.Option.{none-some, same_Some}
 use Rattle.surf_kinds.specs.declared.event.Event.{Event}
 use Rattle.surf_kinds.specs.declared.event.Key.{Key}
 use Rattle.surf_kinds.specs.declared.site.Sites.{Sites}
-use Rattle.surf_kinds.specs.Keys.{same_key, key_of, key_after, at, AllKeys, ◌is_upto◌, ◌is_below◌}
+use Rattle.surf_kinds.specs.Keys.{key_of, key_after, at, AllKeys, ◌is_upto◌, ◌is_below◌}
 use Rattle.surf_kinds.specs.Steps.{end_of_places}
 use Rattle.surf_kinds.proofs.Order.{lt_le, le_le}
 use Rattle.surf_kinds.proofs.Tables.{AllKeys_weaker, AllKeys_append}
@@ -21,12 +20,11 @@ use Rattle.plan.proofs.LawLemmas.{fits_is_place}
 use Rattle.regions.specs.Bands.{Bands, owner_of}
 use Rattle.timeline.specs.declared.entry.Entry.{Entry}
 use Rattle.timeline.specs.TimelineView.{events_of}
-use Rattle.border.specs.Messages.{IsPutOf}
 use Rattle.border.specs.Stacked.{stack_of}
-use Rattle.warp_core.specs.World.{World, IsWorld, is_own, after_all}
-use Rattle.warp_core.specs.Messages.{ArePutsOf, partition_of}
+use Rattle.warp_core.specs.World.{IsWorld, is_own, after_all}
+use Rattle.warp_core.specs.Messages.{ArePutsOf}
 use Rattle.warp_core.specs.Grounds.{IsTimely}
-use Rattle.warp_core.specs.Parts.{Part, PartStep, IsNextEntry, HasNoEntry, received_at, with_entry, IsSound, MayStep, part_after, step_puts, IsRun, run_takes, run_puts}
+use Rattle.warp_core.specs.Parts.{Part, PartStep, IsNextEntry, HasNoEntry, received_at, with_entry, IsSound, MayStep, part_after, step_puts}
 use Rattle.warp_core.proofs.LawLemmas.{next_is, applied_sound, ended_sound, is_world, puts_at, events-append}
 use Rattle.region_run.specs.Boards.{IsBoard}
 use Rattle.region_run.specs.declared.board.Board.{Board}

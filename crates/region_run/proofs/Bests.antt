@@ -1,15 +1,13 @@
 -- The best of the events seen so far.
-use Rattle.std.proofs.Common.{◌≡◌, ℕ, ◌+◌, ◌≤◌, Bool, true, false, ◌&&◌, ◌⊎◌, inl, inr, List, [], ◌∷◌, refl, sym, ap, ◌∙◌, subst, arith, Option, Some, None, cond}
-use Rattle.std.specs.Prelude.{not, nat_le}
-use Rattle.std.proofs.lemmas.Bool.{both_ways, cases_Bool, and_parts, and_cases, and_from, not-true, not_from_false, leb-true, le-leb}
-use Rattle.std.proofs.lemmas.Bool.Decides.{nat_tests}
+use Rattle.std.proofs.Common.{◌≡◌, ℕ, true, ◌⊎◌, inl, inr, List, [], ◌∷◌, refl, sym, ap, ◌∙◌, subst, Option, Some, None, cond}
+use Rattle.std.specs.Prelude.{not}
+use Rattle.std.proofs.lemmas.Bool.{cases_Bool, not-true}
 use Rattle.std.proofs.lemmas.Option.{none-some, same_Some}
 use Rattle.surf_kinds.specs.declared.event.Event.{Event}
 use Rattle.surf_kinds.specs.declared.event.Key.{Key}
-use Rattle.surf_kinds.specs.declared.site.SiteState.{SiteState}
 use Rattle.surf_kinds.specs.Keys.{is_before, same_key, key_of, at, from, AllKeys, IsRising, ◌is_upto◌, ◌is_below◌}
-use Rattle.surf_kinds.proofs.Order.{le_refl, lt_le, le_le, lt_to_le, lt_not_le, same_refl, same_is}
-use Rattle.surf_kinds.proofs.Tables.{none_or_some, AllKeys_at, AllKeys_weaker, AllKeys_keep, AllKeys_kept, IsRising_keep}
+use Rattle.surf_kinds.proofs.Order.{le_refl, lt_to_le, same_refl, same_is}
+use Rattle.surf_kinds.proofs.Tables.{AllKeys_at, AllKeys_weaker, AllKeys_keep, AllKeys_kept, IsRising_keep}
 use Rattle.warp_core.specs.Choices.{earlier_due_of}
 use Rattle.warp_core.proofs.LawLemmas.{at_from, IsBest, best_from}
 use Rattle.region_run.specs.Choices.{first_of, IsFirst}

@@ -15,7 +15,7 @@ use Rattle.region_run.specs.Sides.{SideView, is_other, Gained, HasRoom}
 use Rattle.plan.specs.Network.{Network}
 use Rattle.warp_core.specs.Parts.{PartStep}
 use Rattle.region_run.specs.declared.totals.Totals.{Totals}
-use Rattle.region_run.specs.Regions.{Base, is_own_key, AreMarked, IsRegion}
+use Rattle.region_run.specs.Regions.{Base, is_own_key, AreMarked}
 use Rattle.region_run.specs.Runs.{HasSpare, SameSide, IsReplayed, replayed_at, MakesStep, StepsOn}
 use Rattle.region_run.proofs.Remade.{counted}
 use Rattle.region_run.specs.Starts.{own_entries_below, received_entries_below}

@@ -15,7 +15,7 @@ use Rattle.timeline.specs.declared.entry.Entry.{Entry}
 use Rattle.timeline.specs.TimelineView.{events_of}
 use Rattle.warp_core.specs.World.{World, end_key}
 use Rattle.warp_core.specs.Messages.{partition_of}
-use Rattle.warp_core.specs.Parts.{Part, PartStep, IsNextEntry, HasNoEntry, at_end, after_op, part_after, part_run, run_takes}
+use Rattle.warp_core.specs.Parts.{Part, PartStep, HasNoEntry, at_end, after_op, part_after, part_run, run_takes}
 use Rattle.region_run.specs.declared.region.Region.{Region}
 use Rattle.region_run.specs.declared.side.Ends.{Ends}
 use Rattle.region_run.specs.declared.totals.Totals.{Totals}

@@ -1,5 +1,5 @@
 -- A turn: a run of steps of the core, and what it did with its rings.
-use Rattle.std.specs.Prelude.{◌≡◌, ◌≢◌, ℕ, ◌+◌, ◌≤◌, ◌<◌, ◌⊎◌, false, MatchBool, List, [], ◌++◌, length, Option, Some, None, if◌then◌else◌}
+use Rattle.std.specs.Prelude.{◌≡◌, ◌≢◌, ℕ, ◌+◌, ◌≤◌, ◌<◌, false, MatchBool, List, [], ◌++◌, length, Option, Some, None, if◌then◌else◌}
 use Rattle.surf_kinds.specs.declared.event.Event.{Event}
 use Rattle.plan.specs.Network.{Network}
 use Rattle.regions.specs.Bands.{Bands}
