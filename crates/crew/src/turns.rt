@@ -93,15 +93,7 @@ fn look_in(regions: &mut [Region], j: usize, i: usize)
     ensures they { (d : TheRegion) → LooksAt (slice_index_or regions.old j d) (slice_index_or regions.old i d) (slice_index_or regions.new j d) (slice_index_or regions.new i d) }
 {
     let (low, high) = regions.split_at_mut(i);
-    look_at(&mut low[j], &mut high[0]);
-}
-
-/// Looks at the rings between two regions.
-fn look_at(one: &mut Region, other: &mut Region)
-    requires { MayLook one.old other.old }
-    ensures { LooksAt one.old other.old one.new other.new }
-{
-    look(one, other);
+    look(&mut low[j], &mut high[0]);
 }
 
 /// Looks at the rings between a region and those before it.
