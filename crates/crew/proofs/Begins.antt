@@ -77,7 +77,7 @@ module _ (v : CrewView) (a : AreFirst v) where
 
 -- a crew at its start, with a quota that a turn may have
 pub ready_first : (v : CrewView) → AreFirst v → 1 ≤ v.quota → v.quota ≤ 65536 → v.rounds ≡ 0 → v.committed ≡ 0 → IsReady v
-ready_first v a low high none no_events = record { few = omega (arith, none); fewer = λ _. omega (arith, none); handed_out = no_events ∙ sym (ap (λ (l : List Event). raised 0 (length l)) (none_yet v a)); balanced = balance; past = λ _. []; base = λ _. v.start; crew = crew_first v a; consistent = consistent_first v a; at_least = low; at_most = high }
+ready_first v a low high none no_events = record { few = omega (arith, none); fewer = λ _. omega (arith, none); handed_out = no_events ∙ sym (ap (λ (l : List Event). raised 0 (length l)) (none_yet v a)); balanced = balance; past = λ _. []; base = λ _. v.start; crew = crew_first v a; consistent = consistent_first v a; untold = λ j i _ _ _. chan v a j i; at_least = low; at_most = high }
   where
     balance : AreBalanced v.regions (length (below v.horizon (world_in v).history))
     balance =

@@ -137,6 +137,7 @@ module _ (v : CrewView) (ready : IsReady v) (k : Key) (least : (i : ℕ) (d : Re
           crew = recounted (record v { horizon = k; regions = rs' }) rounds committed (commits.past_then v ready.past ready.base ready.crew ready.consistent k may rs' gone)
               (commits.base_then v ready.past ready.base ready.crew ready.consistent k may rs' gone) (commits.crew_then v ready.past ready.base ready.crew ready.consistent k may rs' gone);
           consistent = commits.consistent_then v ready.past ready.base ready.crew ready.consistent k may rs' gone;
+          untold = λ j i a b n. commits.same_channel v ready.past ready.base ready.crew ready.consistent k may rs' gone j i ∙ ready.untold j i a b n;
           at_least = ready.at_least;
           at_most = ready.at_most;
           few = few_more v.rounds v.committed (length events) rounds committed (ready.fewer unfinished) more counted;

@@ -18,9 +18,10 @@ use Rattle.region_run.specs.Sides.{SideView, is_other, line_of, ends_of, receive
 use Rattle.plan.specs.Network.{Network}
 use Rattle.regions.specs.Bands.{Bands}
 use Rattle.region_run.specs.Regions.{Base, part_of, line_to, ends_with, IsRegion}
-use Rattle.crew.specs.Crews.{CrewView, IsCrew, world_in, core_in, parts_of, lines_of, got_of, part_if, line_if, ends_if, base_at}
+use Rattle.crew.specs.Crews.{CrewView, IsCrew, AreUntoldEmpty, world_in, core_in, parts_of, lines_of, got_of, part_if, line_if, ends_if, base_at}
 use Rattle.crew.specs.Rounds.{Worked, AllWorked}
 use Rattle.crew.proofs.Fronts.{flows, IsFront}
+use Rattle.crew.proofs.Untold.{run_none}
 use Rattle.crew.proofs.Present.{member, there, laws, fronts}
 
 -- a choice for each number below a bound
@@ -147,6 +148,16 @@ module _ (v : CrewView) (past : ℕ → List Event) (base : ℕ → SurfaceView)
             ∙ (ap (λ l. handed ++ drop (length (got_of rs' i j)) l) (sym (dj.line i))
             ∙ sym (ap (λ t. handed ++ cond t [] (drop (length (got_of rs' i j)) (lines_of rs' j i))) q.0))))
       ]
+
+  pub untold_joined : AreUntoldEmpty (world_in v) (core_in v) → AreUntoldEmpty (world_in v) (core_in (record v { regions = rs' }))
+  untold_joined empty j i a b untold =
+      let puts : run_puts (world_in v) v.horizon j (parts_of v.regions j) (chosen.0 j) i ≡ [] = run_none (world_in v) j i untold (base j).sites v.horizon (parts_of v.regions j) (chosen.0 j) (chosen.1 j a).may in
+      no_end (run_takes (chosen.0 i) j) ((core_in (record v { regions = rs' })).channel j i)
+      (sym (flow_between j i a b) ∙ (ap (λ xs. (core_in v).channel j i ++ xs) puts ∙ (append-nil ((core_in v).channel j i) ∙ empty j i a b untold)))
+    where
+      no_end : (xs ys : List Op) → xs ++ ys ≡ [] → ys ≡ []
+      no_end [] ys h = h
+      no_end (x ∷ xs) ys h = absurd (omega (arith, ap (λ (l : List Op). length l) h))
 
   pub consistent_joined : IsConsistent (world_in v) (core_in v) → IsConsistent (world_in v) (core_in (record v { regions = rs' }))
   consistent_joined good =

@@ -1,7 +1,9 @@
 pub mod Fronts
 pub mod Cores
 pub mod Present
+pub mod Untold
 pub mod Begins
+pub mod Sweeping
 pub mod Joins
 pub mod Steps
 pub mod Deliveries

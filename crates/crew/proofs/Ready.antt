@@ -24,13 +24,14 @@ use Rattle.region_run.specs.Regions.{Base, ends_with, IsRegion}
 use Rattle.region_run.specs.Channels.{AreTied}
 use Rattle.region_run.specs.Counts.{with_work}
 use Rattle.region_run.specs.Runs.{MakesStep, StepsOn, SameSide, SameRings, HasSpare}
-use Rattle.crew.specs.Crews.{CrewView, IsCrew, IsReady, world_in, core_in, rest_of, turns_of, base_at, ends_of, ends_if}
+use Rattle.crew.specs.Crews.{CrewView, IsCrew, IsReady, AreUntoldEmpty, world_in, core_in, rest_of, turns_of, base_at, ends_of, ends_if}
 use Rattle.crew.specs.Calls.{ChangesOne, ChangesTwo, MakesRoom, MayStepOne, HasStepped, MayDeliver, Delivers}
 use Rattle.crew.specs.Rounds.{IsOne, IsTwo, Stepped}
 use Rattle.crew.proofs.Lists.{one_changed, two_changed, one_turns, two_turns}
 use Rattle.crew.proofs.Present.{laws}
 use Rattle.crew.specs.Balances.{AreBalanced}
 use Rattle.crew.proofs.Balances.{one_balanced, two_balanced, same_balance, gave, given as given_balance, stepped as stepped_balance}
+use Rattle.crew.proofs.Untold.{take_stays, one_stays}
 use Rattle.crew.proofs.Steps as steps
 use Rattle.crew.proofs.Deliveries as deliveries
 
@@ -41,9 +42,9 @@ pub rest_world : (a b : CrewView) → rest_of a ≡ rest_of b → world_in a ≡
 rest_world a b e = ap (λ (p : CrewView × List (ℕ × Turn)). world_in p.0) e
 
 pub ready_with : (v : CrewView) (ready : IsReady v) (rs' : List Region) → IsCrew (record v { regions = rs' }) ready.past ready.base → IsConsistent (world_in v) (core_in (record v { regions = rs' }))
-    → AreBalanced rs' (length (below v.horizon (world_in v).history)) → IsReady (record v { regions = rs' })
-ready_with v ready rs' crew good balanced =
-    record { past = ready.past; base = ready.base; crew = crew; consistent = good; at_least = ready.at_least; at_most = ready.at_most; few = ready.few; fewer = ready.fewer; handed_out = ready.handed_out; balanced = balanced }
+    → AreUntoldEmpty (world_in v) (core_in (record v { regions = rs' })) → AreBalanced rs' (length (below v.horizon (world_in v).history)) → IsReady (record v { regions = rs' })
+ready_with v ready rs' crew good untold balanced =
+    record { past = ready.past; base = ready.base; crew = crew; consistent = good; untold = untold; at_least = ready.at_least; at_most = ready.at_most; few = ready.few; fewer = ready.fewer; handed_out = ready.handed_out; balanced = balanced }
 
 -- the same rings
 side_other : (s t : Option SideView) → SameSide s t → (l : ℕ) → is_other t l ≡ is_other s l
@@ -102,6 +103,7 @@ module _ (v : CrewView) (ready : IsReady v) where
     room_ready =
         ready_with v ready rs' (steps.same_crew v ready.past ready.base ready.crew rs' i roomed.0 roomed.1 roomed.2 roomed.3.made.same)
         (subst (λ (k : Core). IsConsistent (world_in v) k) (sym room_core) ready.consistent)
+        (subst (λ (k : Core). AreUntoldEmpty (world_in v) k) (sym room_core) ready.untold)
         (one_balanced v.regions rs' i roomed.0 roomed.1 _ roomed.2 (λ m. same_balance m roomed.0 roomed.1 roomed.3.made.totals roomed.3.made.same.part) ready.balanced)
 
     pub room_rest : rest_of (record v { regions = rs' }) ≡ rest_of v
@@ -159,10 +161,12 @@ module _ (v : CrewView) (ready : IsReady v) where
               ready_with v ready rs'
               (deliveries.delivered_crew v ready.past ready.base ready.crew rs' from to given.0 given.1 given.2 given.3 given.4 (given.5.one e v.until (base_at v ready.past ready.base to) region))
               (step_keeps (world_in v) world (core_in v) (core_in (record v { regions = rs' })) (Step.Take from to) ready.consistent (give_done e))
+              (take_stays (world_in v) (core_in v) (core_in (record v { regions = rs' })) from to (give_done e) ready.untold)
               balance
           | inr e ↦
               ready_with v ready rs' (deliveries.none_crew v ready.past ready.base ready.crew rs' from to given.0 given.1 given.2 given.3 given.4 (given.5.none e))
               (subst (λ (k : Core). IsConsistent (world_in v) k) (sym (give_none e).0) ready.consistent)
+              (subst (λ (k : Core). AreUntoldEmpty (world_in v) k) (sym (give_none e).0) ready.untold)
               balance
         ]
 
@@ -201,6 +205,7 @@ module _ (v : CrewView) (ready : IsReady v) where
           | inl s ↦ step_keeps (world_in v) world (core_in v) (core_in (record v { regions = rs' })) (Step.Fire i) ready.consistent s
           | inr s ↦ step_keeps (world_in v) world (core_in v) (core_in (record v { regions = rs' })) (Step.Pass i) ready.consistent s
         ])
+        (one_stays (world_in v) (core_in v) (core_in (record v { regions = rs' })) i step_one ready.untold)
         (one_balanced v.regions rs' i went.0 went.1 _ went.2
         (λ m. stepped_balance m v.network v.bands v.until (base_at v ready.past ready.base i) went.0 went.1 (ready.crew.region i went.0 went.2.old_at).0 went.3) ready.balanced)
 

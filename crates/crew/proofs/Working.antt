@@ -20,7 +20,7 @@ use Rattle.region_run.specs.Counts.{with_turn}
 use Rattle.region_run.specs.Runs.{MakesRun, HasSpare}
 use Rattle.region_run.specs.Turns.{IsTurn}
 use Rattle.region_run.specs.Deliveries.{ArePaired, HasLooked, IsSame}
-use Rattle.crew.specs.Crews.{CrewView, IsCrew, IsReady, world_in, core_in, core_from, rest_of, turns_of, base_at, ends_of, ends_if, parts_of, lines_of, got_of, part_if, line_if}
+use Rattle.crew.specs.Crews.{CrewView, IsCrew, IsReady, AreUntoldEmpty, world_in, core_in, core_from, rest_of, turns_of, base_at, ends_of, ends_if, parts_of, lines_of, got_of, part_if, line_if}
 use Rattle.crew.specs.Calls.{ChangesTwo, ChangesEach, HasRoomMade, MayTurn, HasTurned, MayLook, LooksAt, IsSeen, AreLookedAt}
 use Rattle.crew.specs.Rounds.{IsTwo, Worked, AllWorked, IsWhole, HaveWorked}
 use Rattle.crew.proofs.Fronts.{tied_back}
@@ -28,7 +28,7 @@ use Rattle.crew.proofs.Lists.{two_changed, each_changed, both_there, all_at, eac
 use Rattle.crew.proofs.Balances.{each_balanced, same_balance, turned as turned_balance}
 use Rattle.crew.proofs.Ready.{rest_is, ready_with}
 use Rattle.crew.proofs.Work.{turn_worked, same_number}
-use Rattle.crew.proofs.Joins.{crew_joined, consistent_joined}
+use Rattle.crew.proofs.Joins.{crew_joined, consistent_joined, untold_joined}
 
 -- Rings keep their names
 
@@ -312,6 +312,7 @@ module _ (v : CrewView) (ready : IsReady v) where
 
       pub work_ready : IsReady (record v { regions = rs2 })
       work_ready = ready_with v ready rs2 (crew_joined v ready.past ready.base rs2 ready.crew all_worked) (consistent_joined v ready.past ready.base rs2 ready.crew all_worked ready.consistent)
+          (untold_joined v ready.past ready.base rs2 ready.crew all_worked ready.untold)
           (each_balanced v.regions rs2 _ (seen.len ∙ turned.len)
           (λ i n r t a b bal.
           let m = mid i r t a b in
@@ -392,6 +393,7 @@ module _ (v : CrewView) (ready : IsReady v) where
           ties = λ a b n. subst (λ x. AreTied x (ends_of rs' b a)) (sym (same_ends a b)) (subst (λ x. AreTied (ends_of v.regions a b) x) (sym (same_ends b a)) (ready.crew.ties a b n));
         })
         (subst (λ (k : Core). IsConsistent (world_in v) k) (sym prepared_core) ready.consistent)
+        (subst (λ (k : Core). AreUntoldEmpty (world_in v) k) (sym prepared_core) ready.untold)
         (each_balanced v.regions rs' _ made.len (λ i n r t a b bal. let m = made_at i r t a b in same_balance n r t m.totals m.same.part bal) ready.balanced)
 
     pub prepared_rest : rest_of (record v { regions = rs' }) ≡ rest_of v

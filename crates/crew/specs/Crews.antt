@@ -1,7 +1,7 @@
 -- A crew, as a configuration of the core.
 use Rattle.std.proofs.Common.{ap}
 use Rattle.std.proofs.lemmas.Bool.{eq-eqb}
-use Rattle.std.specs.Prelude.{refl, ◌+◌, ◌≡◌, ◌≢◌, ◌^◌, ℕ, ◌<◌, ◌≤◌, ◌==◌, List, [], ◌++◌, length, drop, map, Option, Some, None, slice_get, if◌then◌else◌}
+use Rattle.std.specs.Prelude.{refl, ◌+◌, ◌≡◌, ◌≢◌, ◌^◌, ℕ, ◌<◌, false, ◌≤◌, ◌==◌, List, [], ◌++◌, length, drop, map, Option, Some, None, slice_get, if◌then◌else◌}
 use Rattle.surf_kinds.specs.declared.event.Event.{Event}
 use Rattle.surf_kinds.specs.declared.event.Key.{Key}
 use Rattle.surf_kinds.specs.declared.site.SpeciesId.{SpeciesId}
@@ -113,12 +113,25 @@ turns_of r = (r.totals.turns, r.totals.last_turn)
 abbrev pub rest_of : CrewView → CrewView × List (ℕ × Turn)
 rest_of v = (record v { regions = [] }, map turns_of v.regions)
 
+-- region i is told of no event of region j
+abbrev pub IsUntold : World → ℕ → ℕ → Type 0
+IsUntold w j i = (p : ℕ) → w.owner p ≡ j → w.told i p ≡ false
+
+-- Nothing is on its way to a region that is told of none of the sender's events.
+abbrev pub AreUntoldEmpty : World → Core → Type 0
+AreUntoldEmpty w c = (j i : ℕ) → j < w.regions → i < w.regions → IsUntold w j i → c.channel j i ≡ []
+
+-- the channel from region j to another one, if that is given, is empty
+abbrev pub ToEmpty : ℕ → Option ℕ → Core → Type 0
+ToEmpty j to c = (i : ℕ) → to ≡ Some i → c.channel j i ≡ []
+
 -- What a crew keeps to between its calls.
 pub record IsReady (v : CrewView) : Type 0 where
   pub past : ℕ → List Event
   pub base : ℕ → SurfaceView
   pub crew : IsCrew v past base
   pub consistent : IsConsistent (world_in v) (core_in v)
+  pub untold : AreUntoldEmpty (world_in v) (core_in v)
   pub at_least : 1 ≤ v.quota
   pub at_most : v.quota ≤ 65536
   -- each round but the last hands out an event at least

@@ -14,7 +14,8 @@ use crate::settling::settle;
 use crate::turns::{look_at_all, prepare_all, turn_all};
 use plan::Plan;
 use region_run::Region;
-use regions::Cut;
+use regions::laws::neighbours_are_told;
+use regions::{Cut, Neighbours};
 use std::alloc::Global;
 use std::marker::Model;
 use std::thread::Threads;
@@ -60,6 +61,11 @@ impl Machine for Crew {
 
     fn regions(&self) -> u32 {
         self.cut.count()
+    }
+
+    fn neighbours(&self, region: u32) -> Neighbours {
+        neighbours_are_told();
+        self.cut.neighbours(region)
     }
 
     fn clock(&self, region: u32) -> Key {

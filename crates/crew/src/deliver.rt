@@ -1,8 +1,9 @@
 //! Delivers every message.
-ghost use Rattle.std.specs.Prelude.{◌≡◌, ◌≢◌, ◌<◌, ℕ, true, false, OnOk, OnErr, IfOk};
+ghost use Rattle.std.specs.Prelude.{◌≡◌, ◌≢◌, ◌<◌, ℕ, true, false, Some, OnOk, OnErr, IfOk};
 ghost use Rattle.warp_core.specs.Cores.{IsConsistent};
 ghost use Rattle.warp_core.specs.Settling.{TakesTo, AreEmpty};
 ghost use Rattle.warp_core.specs.SettlingLoops.{Swept, OneEmpty, RowEmpty, RowsEmpty};
+ghost use Rattle.crew.specs.Crews.{ToEmpty};
 
 use crate::machine::Machine;
 use surf_kinds::NoMemory;
@@ -23,7 +24,23 @@ pub fn drain<M: Machine>(m: &mut M, from: u32, to: u32) -> Result<bool, NoMemory
     Ok(moved)
 }
 
-/// Every message of each channel of a sender.
+/// Every message of the channel to another region, where there is one.
+fn drain_to<M: Machine>(m: &mut M, from: u32, to: Option<u32>) -> Result<bool, NoMemory>
+    requires from { from < (M.world m.old).regions }
+    requires to { (i : ℕ) → to ≡ Some i → (i < (M.world m.old).regions) × (from ≢ i) }
+    requires good { IsConsistent (M.world m.old) (M.core m.old) }
+    ensures world { M.world m.new ≡ M.world m.old }
+    ensures rest { M.rest m.new ≡ M.rest m.old }
+    ensures takes { TakesTo (M.world m.old) (M.core m.old) (M.core m.new) }
+    ensures swept { IfOk result (λ moved. Swept (M.world m.old) (M.core m.old) (M.core m.new) moved (ToEmpty from to)) }
+{
+    match to {
+        Some(to) => drain(m, from, to),
+        None => Ok(false),
+    }
+}
+
+/// Every message of each channel of a sender: those to its neighbours, since the others are empty.
 pub fn sweep_from<M: Machine>(m: &mut M, from: u32, n: u32) -> Result<bool, NoMemory>
     requires inside { (n ≡ (M.world m.old).regions) × (from < n) }
     requires good { IsConsistent (M.world m.old) (M.core m.old) }
@@ -32,16 +49,10 @@ pub fn sweep_from<M: Machine>(m: &mut M, from: u32, n: u32) -> Result<bool, NoMe
     ensures takes { TakesTo (M.world m.old) (M.core m.old) (M.core m.new) }
     ensures swept { IfOk result (λ moved. Swept (M.world m.old) (M.core m.old) (M.core m.new) moved (RowEmpty from n)) }
 {
-    let mut moved = false;
-    for to in 0..n {
-        if to == from {
-            continue;
-        }
-        if drain(m, from, to)? {
-            moved = true;
-        }
-    }
-    Ok(moved)
+    let neighbours = m.neighbours(from);
+    let first = drain_to(m, from, neighbours.first)?;
+    let second = drain_to(m, from, neighbours.second)?;
+    Ok(first || second)
 }
 
 /// Every message that is there, or is put meanwhile into a channel that comes later.

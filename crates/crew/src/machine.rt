@@ -1,11 +1,12 @@
 //! What settling calls.
-ghost use Rattle.std.specs.Prelude.{◌≡◌, ◌≢◌, ◌<◌, ℕ, true, false, [], OnOk, OnErr, IfOk};
+ghost use Rattle.std.specs.Prelude.{◌≡◌, ◌≢◌, ◌⊎◌, ◌<◌, ℕ, true, false, [], Some, OnOk, OnErr, IfOk};
 ghost use Rattle.warp_core.specs.World.{World, end_key};
 ghost use Rattle.warp_core.specs.Cores.{Core, IsConsistent};
 ghost use Rattle.warp_core.specs.Steps.{StepOf};
 ghost use Rattle.warp_core.specs.declared.step.Step.{Step};
 ghost use Rattle.warp_core.specs.Settling.{StepsOne, IsNextKey};
 
+use regions::Neighbours;
 use surf_kinds::{Key, NoMemory};
 
 pub trait Machine {
@@ -20,6 +21,12 @@ pub trait Machine {
 
     fn regions(&self) -> u32
         ensures { result ≡ (world self.now).regions };
+
+    /// The regions that a region sends messages to. The channels from it to all others are empty.
+    fn neighbours(&self, region: u32) -> Neighbours
+        requires { region < (world self.now).regions }
+        ensures inside { (i : ℕ) → (result.first ≡ Some i) ⊎ (result.second ≡ Some i) → (i < (world self.now).regions) × (region ≢ i) }
+        ensures others { (i : ℕ) → i < (world self.now).regions → result.first ≢ Some i → result.second ≢ Some i → (core self.now).channel region i ≡ [] };
 
     fn clock(&self, region: u32) -> Key
         requires { region < (world self.now).regions }
