@@ -26,3 +26,6 @@ pub use deliver::{deliver_all, drain, sweep, sweep_from};
 pub use machine::Machine;
 pub use settings::{CrewSettings, Report};
 pub use settling::{finish, least_next, pass, settle, some_behind};
+
+#[cfg(test)]
+mod tests;

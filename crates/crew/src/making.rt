@@ -146,6 +146,3 @@ pub(crate) fn regions_of(
     join_all(alloc, cut, regions.as_mut_slice(), slots)?;
     Ok(regions)
 }
-
-#[cfg(test)]
-mod tests;
