@@ -15,7 +15,7 @@ use Rattle.surface_top.specs.declared.ending.Ending.TheVariants as ending
 use Rattle.surface_top.specs.Answer.{Answer, TooLong, WrongWord, answer_within, answer_to, is_too_long, specified_answer}
 use Rattle.surface_top.specs.Ending.{status_of, IsEndingOf, EndsAs}
 use Rattle.surface_top.specs.Outcome.{OutGains}
-use Rattle.surface_top.proofs.Written.{appends_none}
+use Rattle.surf_outside.proofs.LawLemmas.{wrote_nothing}
 
 -- the bytes of a source: those that it tells, or else these
 abbrev pub given : Option (List ℕ) → List ℕ → List ℕ
@@ -29,11 +29,11 @@ given_agrees (Some all) bytes = refl
 
 pub ends_read_fault : (answer : List ℕ → Answer) (Besides : List ℕ → Type 0) (unread old : Option (List ℕ)) → ((bytes : List ℕ) → Besides bytes) → EndsAs answer Besides ending.ReadFault unread old old
 ends_read_fault answer Besides unread old rest =
-    record { bytes = given unread []; agrees = given_agrees unread []; is_of = tt; gains = appends_none old; besides = rest (given unread []) }
+    record { bytes = given unread []; agrees = given_agrees unread []; is_of = tt; gains = (wrote_nothing old 0).gained; besides = rest (given unread []) }
 
 pub ends_memory : (answer : List ℕ → Answer) (Besides : List ℕ → Type 0) (unread old : Option (List ℕ)) → ((bytes : List ℕ) → Besides bytes) → EndsAs answer Besides ending.Memory unread old old
 ends_memory answer Besides unread old rest =
-    record { bytes = given unread []; agrees = given_agrees unread []; is_of = tt; gains = (0, appends_none old); besides = rest (given unread []) }
+    record { bytes = given unread []; agrees = given_agrees unread []; is_of = tt; gains = (0, (wrote_nothing old 0).gained); besides = rest (given unread []) }
 
 -- the answer is this one, which has no text
 pub ends_bare : (answer : List ℕ → Answer) (Besides : List ℕ → Type 0) (e : Ending) (a : Answer) (bytes : List ℕ) (unread old : Option (List ℕ)) → answer (given unread bytes) ≡ a → IsEndingOf e a → OutGains (status_of e) a old old
@@ -70,7 +70,7 @@ ends_too_long words command Besides bytes unread rest old h taken more besides =
     let long = too_long command (given unread bytes) h (given_more unread rest bytes 67108864 taken more) in
     ends_bare (answer_to words command) Besides ending.TooLong TooLong bytes unread old
     (ap (λ b. cond b TooLong (answer_within command words (given unread bytes))) long)
-    refl (appends_none old) (besides (given unread bytes) long)
+    refl ((wrote_nothing old 0).gained) (besides (given unread bytes) long)
 
 -- the text that was read is answered
 pub ends_within : (words : List (List ℕ)) (command : Words) (Besides : List ℕ → Type 0) (text : List ℕ) (e : Ending) (unread old new : Option (List ℕ)) → reads command ≡ true → length text ≤ 67108864 → IfSome unread (λ all. text ≡ all)
@@ -104,7 +104,7 @@ pub ends_wrong : (words : List (List ℕ)) (Besides : List ℕ → Type 0) (inde
 ends_wrong words Besides index unread old none first rest =
     ends_bare (specified_answer Surface words) Besides (ending.WrongWord index) (WrongWord index) [] unread old
     (ap (λ o. option_map_or (λ c. answer_to words c (given unread [])) o (WrongWord (unwrap_or (first_wrong Surface words) 0))) none ∙ ap (λ o. WrongWord (unwrap_or o 0)) first)
-    refl (appends_none old) (rest (given unread []))
+    refl ((wrote_nothing old 0).gained) (rest (given unread []))
 
 -- a command that reads nothing has one answer, whatever the bytes are
 same_answer : (words : List (List ℕ)) (command : Words) (xs ys : List ℕ) → reads command ≡ false → answer_within command words xs ≡ answer_to words command ys

@@ -1,5 +1,5 @@
 -- The run of a compiled circuit ends with its work.
-use Rattle.std.proofs.Common.{◌≡◌, ℕ, zero, suc, ◌+◌, ◌^◌, ◌≤◌, List, ◌++◌, length, Option, Some, None, Ok, Err, Result, Bool, true, false, refl, sym, ap, ◌∙◌, subst, arith, if◌then◌else◌}
+use Rattle.std.proofs.Common.{◌≡◌, ℕ, ◌+◌, ◌^◌, ◌≤◌, List, ◌++◌, length, Option, Some, None, Ok, Err, Result, Bool, true, false, refl, sym, ap, ◌∙◌, subst, arith, if◌then◌else◌}
 use Rattle.std.specs.Prelude.{nat_lt, unwrap_or, IfOk}
 use Rattle.std.specs.Option.{option_map_or}
 use Rattle.std.proofs.lemmas.Bool.Decides.{nat_tests}
@@ -30,10 +30,11 @@ use Rattle.track_layout.specs.Tracks.{compact_table}
 use Rattle.track_layout.specs.Turns.{tracks_of}
 use Rattle.track_layout.specs.Compact.{IsCompact}
 use Rattle.trace_text.specs.Lines.{surface_text, end_text}
-use Rattle.surface_top.specs.RunText.{Scene, events_of, start, run_text}
+use Rattle.run_writer.specs.RunText.{Scene, events_of, start, run_text}
 use Rattle.surface_top.specs.Answer.{Answer, WrongWord, Text, scene_of, run_answer, by_manifest, answer_within, answer_to, specified_answer}
-use Rattle.surface_top.specs.CircuitRuns.{IsLongRun, EndsWithText, RunsToItsValues}
-use Rattle.surface_top.proofs.TextEnds.{ends, shows, ticks_end}
+use Rattle.run_writer.specs.Cuts.{EndsWithText}
+use Rattle.surface_top.specs.CircuitRuns.{IsLongRun, RunsToItsValues}
+use Rattle.run_writer.proofs.LawLemmas.{ends, shows, ticks_end}
 
 -- the run of a manifest with up to 10,000,000 events
 abbrev long_scene : Manifest → Option ℕ → ℕ → Scene
@@ -73,11 +74,10 @@ not_over limit n x y le =
 
 shows_last : (m : Manifest) (seed : Option ℕ) (samples n : ℕ) → length (events_of (long_scene m seed samples) (first_surface m.cells)) ≡ n → n ≤ 10000000 → 1 ≤ samples
     → EndsWithText (surface_text m.names m.lattice (last_of m seed) m.until n ++ end_text m.until n) (run_text (long_scene m seed samples) (first_surface m.cells))
-shows_last m seed zero n is few some = absurd (omega (arith, some))
-shows_last m seed (suc k) n is few some =
-    let s = long_scene m seed (suc k) in
+shows_last m seed samples n is few some =
+    let s = long_scene m seed samples in
     let sites = first_surface m.cells in
-    let ticks = ticks_end m.until k in
+    let ticks = ticks_end m.until samples some in
     shows (events_of s sites) s (start s sites) ticks.0 n (is_history s.network s.until sites) ticks.1 (omega (arith, is)) few
 
 -- what is answered to the canonical text

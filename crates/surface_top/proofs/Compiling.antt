@@ -13,7 +13,7 @@ use Rattle.surface_top.specs.declared.answers.LayoutKind.{LayoutKind}
 use Rattle.surface_top.specs.declared.ending.Ending.TheVariants as ending
 use Rattle.surface_top.specs.Answer.{Answer, TooManySites, sites_on, compile_answer}
 use Rattle.surface_top.specs.Ending.{Answered}
-use Rattle.surface_top.proofs.Written.{appends_none}
+use Rattle.surf_outside.proofs.LawLemmas.{wrote_nothing}
 
 choose : (b d : Bool) (x y : Answer) → b ≡ d → (if b then x else y) ≡ (if d then x else y)
 choose b d x y h = ap (λ t. if t then x else y) h
@@ -28,7 +28,7 @@ many_sites kind word c sites e s many =
 pub sites_refused : (kind : LayoutKind) (word : List ℕ) (c : NetList) (sites : ℕ) (old : Option (List ℕ)) (f n : ℕ) → length word ≡ input_count c.nets → sites ≡ sites_on kind c → 2 ^ 20 < sites → Answered (compile_answer kind word c) (ending.TooManySites sites) old old f n
 sites_refused kind word c sites old f n e s many =
     subst (λ x. Answered x (ending.TooManySites sites) old old f n) (many_sites kind word c sites e s many)
-    (record { is_of = refl; gains = appends_none old; write = search rules; read = search rules })
+    (record { is_of = refl; gains = (wrote_nothing old 0).gained; write = search rules; read = search rules })
 
 -- what a circuit is compiled to on its compact layout
 pub compact_exact : {E : Type 0} (c : NetList) (inputs : List Bool) (r : Result Manifest E) → IfOk r (IsCompact c inputs) → IfOk r (λ m. m ≡ compiled_manifest c inputs (compact_table (tracks_of c)))

@@ -15,17 +15,18 @@ use Rattle.surface_words.specs.declared.commands.Program.TheVariants.{Surface}
 use Rattle.surface_words.specs.declared.words.Words.{Words}
 use Rattle.surface_words.specs.declared.words.Words.TheVariants as said
 use Rattle.surface_words.specs.Reading.{reading, reads}
-use Rattle.surface_top.specs.declared.pages.Stop.{Stop}
-use Rattle.surface_top.specs.declared.pages.Stop.TheVariants as stop
+use Rattle.run_writer.specs.declared.pages.Stop.{Stop}
+use Rattle.run_writer.specs.declared.pages.Stop.TheVariants as stop
 use Rattle.surface_top.specs.declared.run.RunOptions.{RunOptions}
 use Rattle.surface_top.specs.declared.ending.Ending.{Ending}
 use Rattle.surface_top.specs.declared.ending.Ending.TheVariants as ending
 use Rattle.surface_top.specs.Answer.{is_too_long}
 use Rattle.surface_top.specs.Ending.{run_ending, status_of, IsNoManifest}
 use Rattle.surface_top.specs.Outcome.{is_over, are_too_many, has_too_many_nets, limit_or_faulty}
-use Rattle.surface_top.specs.RunText.{Scene, events_of}
-use Rattle.surface_top.specs.Stops.{IsLimited}
-use Rattle.surface_top.specs.Crewed.{IsCrewFor, IsPastLimit, IsSameCrew, first_of}
+use Rattle.run_writer.specs.RunText.{Scene, events_of}
+use Rattle.run_writer.specs.Stops.{IsLimited}
+use Rattle.run_writer.specs.Crewed.{IsPastLimit, IsSameCrew}
+use Rattle.surface_top.specs.Crewed.{IsCrewFor, first_of}
 use Rattle.surface_top.specs.Kept.{Asked, scene_by, run_read, run_within, run_to, specified_run, left_by, RunLeaves, Leaves, Keeps}
 
 same_for : (n : Network) (tick : ℕ) (first : SurfaceView) (o : RunOptions) (c d : CrewView) → IsCrewFor n tick first o c → IsSameCrew c d → IsCrewFor n tick first o d

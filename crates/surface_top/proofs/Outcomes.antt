@@ -14,7 +14,7 @@ use Rattle.surface_top.specs.Answer.{Answer, Text}
 use Rattle.surface_top.specs.Ending.{status_of, answer_by, IsEndingOf, EndsAs}
 use Rattle.surface_top.specs.Outcome.{is_over, are_too_many, has_too_many_nets, limit_or_faulty, own_status, IsStatusOf, answer_note, message, Gains, NotesGain, HasText, HasLines, HasWriteCause, SinkView, Outside, outside, IsOutcome}
 use Rattle.surface_top.specs.Reporting.{Noted, Told}
-use Rattle.surface_top.proofs.Written.{appends_none}
+use Rattle.surf_outside.proofs.LawLemmas.{wrote_nothing}
 use Rattle.surface_top.proofs.Statuses.{status_is, message_is, out_prefix, complete_of, read_fault, write_fault, memory_message}
 
 gains_nothing : (F : Type 0) (old new : Option (List ℕ)) → Gains F [] old new → Appends old new []
@@ -77,7 +77,7 @@ rose_before a b c r h = omega (arith, h, r)
 told_prefix : (lines : List ℕ) (e : Ending) (old mid : SinkView) → Noted e lines old mid → AppendsPrefix old.written mid.written lines
 told_prefix lines ending.Done old mid h = prefix_whole old.written mid.written lines h
 told_prefix lines ending.WriteFault old mid h = h.0
-told_prefix lines ending.Memory old mid h = subst (λ (x : SinkView). AppendsPrefix old.written x.written lines) h (0, appends_none old.written)
+told_prefix lines ending.Memory old mid h = subst (λ (x : SinkView). AppendsPrefix old.written x.written lines) h (0, (wrote_nothing old.written 0).gained)
 told_prefix lines (ending.WrongWord index) old mid h = absurd h
 told_prefix lines ending.TooLong old mid h = absurd h
 told_prefix lines (ending.BadManifest fault) old mid h = absurd h
@@ -161,7 +161,7 @@ outcome_of answer Besides More lines before after s line old new mid h (inr t) s
     (spoken answer Besides More lines after line old new mid (subst (λ (e : Ending). EndsAs answer Besides e old.source.unread old.out.written new.out.written) t.0 h) t.1 t.2 t.3 more is gains high)
 
 any_prefix : (lines : List ℕ) (before after : Ending) (old mid : SinkView) → Told lines before after old mid → AppendsPrefix old.written mid.written lines × (old.faults ≤ mid.faults)
-any_prefix lines before after old mid (inl t) = subst (λ (x : SinkView). AppendsPrefix old.written x.written lines × (old.faults ≤ x.faults)) (sym t.1) ((0, appends_none old.written), omega arith)
+any_prefix lines before after old mid (inl t) = subst (λ (x : SinkView). AppendsPrefix old.written x.written lines × (old.faults ≤ x.faults)) (sym t.1) ((0, (wrote_nothing old.written 0).gained), omega arith)
 any_prefix lines before after old mid (inr t) = (told_prefix lines after old mid t.2, t.3)
 
 -- there was no memory for the message, and that is the status

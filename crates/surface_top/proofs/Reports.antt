@@ -35,7 +35,7 @@ use Rattle.surface_top.specs.Ending.{IsEndingOf, EndsAs, status_of, answer_by}
 use Rattle.surface_top.specs.Outcome.{message, Gains, SinkView, Outside, IsOutcome}
 use Rattle.surface_top.specs.Kept.{Asked, IsCrewOf, scene_by, events_by, run_by, run_read, run_within, run_to, specified_run, Leaves, Keeps}
 use Rattle.surface_top.specs.Reporting.{report_text, says_report, wants_report, lines_of, line_in, IsRightReport, IsReportOf, IsReportOfKept, IsReportIf, Noted, Told}
-use Rattle.surface_top.proofs.Endings.{first_fresh}
+use Rattle.run_writer.proofs.LawLemmas.{first_fresh}
 use Rattle.surface_top.proofs.Leaving.{keeps, write_keeps, memory_keeps}
 use Rattle.surface_top.proofs.Outcomes.{outcome_of, outcome_memory}
 use Rattle.surface_top.proofs.Statuses.{done_is}

@@ -7,17 +7,17 @@ use Rattle.std.specs.Io.KnownBytes.{Appends}
 use Rattle.surf_outside.specs.Causes.{Rose}
 use Rattle.surf_outside.specs.Known.{AppendsPrefix}
 use Rattle.surf_kinds.specs.declared.site.SiteState.{SiteState}
-use Rattle.surface_top.specs.declared.pages.Stop.{Stop}
-use Rattle.surface_top.specs.declared.pages.Stop.TheVariants as stop
+use Rattle.run_writer.specs.declared.pages.Stop.{Stop}
+use Rattle.run_writer.specs.declared.pages.Stop.TheVariants as stop
 use Rattle.surface_top.specs.declared.ending.Ending.TheVariants as ending
 use Rattle.manifest_read.specs.declared.manifest.Manifest.{Manifest}
 use Rattle.plan.specs.Network.{Network}
 use Rattle.surface_top.specs.Answer.{Answer, Text, EventLimit, scene_of}
 use Rattle.surface_top.specs.Ending.{Answered, run_ending}
 use Rattle.trace_text.specs.Lines.{event_text, end_text, limit_text}
-use Rattle.surface_top.specs.RunText.{Scene, Reached, events_of, shown, ticks_before, reached, start, text_from, run_text}
-use Rattle.surface_top.specs.Stops.{IsLimited, RunGains}
-use Rattle.surface_top.specs.Writing.{scene}
+use Rattle.run_writer.specs.RunText.{Scene, Reached, events_of, shown, ticks_before, reached, start, text_from, run_text}
+use Rattle.run_writer.specs.Stops.{IsLimited, RunGains}
+use Rattle.run_writer.specs.Writing.{scene}
 
 -- a text that is cut to another where a limit was passed
 abbrev pub by_limit : Bool → ℕ → List ℕ → List ℕ → Answer

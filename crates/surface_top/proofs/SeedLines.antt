@@ -9,14 +9,14 @@ use Rattle.manifest_read.specs.Sound.{IsSound}
 use Rattle.ensemble.specs.declared.outcome.Outcome.{Outcome}
 use Rattle.ensemble.specs.Outcomes.{AreAllowed}
 use Rattle.ensemble.specs.Texts.{total_text, totals_text, outcome_text, ensemble_text}
-use Rattle.surface_top.specs.declared.pages.Stop.{Stop}
-use Rattle.surface_top.specs.declared.pages.Stop.TheVariants as stops
+use Rattle.run_writer.specs.declared.pages.Stop.{Stop}
+use Rattle.run_writer.specs.declared.pages.Stop.TheVariants as stops
 use Rattle.surface_top.specs.Answer.{Text, settings_of}
 use Rattle.surface_top.specs.Ending.{Answered, write_ending}
-use Rattle.surface_top.specs.Pages.{Page, Wrote, Stopped, Puts}
-use Rattle.surface_top.proofs.Endings.{stopped_prefix}
+use Rattle.run_writer.specs.Pages.{Page, Wrote, Stopped, Puts}
+use Rattle.run_writer.proofs.LawLemmas.{stopped_prefix}
 use Rattle.surface_top.proofs.RunEnds.{behind_some}
-use Rattle.surface_top.proofs.Written.{wrote_more, wrote_all, stopped_after, stopped_longer}
+use Rattle.run_writer.proofs.LawLemmas.{wrote_more, wrote_all, stopped_after, stopped_longer}
 
 -- the texts of items, one after the other
 module _ {X : Type 0} (text : X → List ℕ) (xs : List X) (i : ℕ) where

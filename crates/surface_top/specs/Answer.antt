@@ -29,8 +29,8 @@ use Rattle.surface_words.specs.Reading.{reading, reads}
 use Rattle.surface_top.specs.declared.answers.LayoutKind.{LayoutKind}
 use Rattle.surface_top.specs.declared.answers.LayoutKind.TheVariants as on
 use Rattle.surface_top.specs.Checks.{check_text}
-use Rattle.surface_top.specs.RunText.{Scene, events_of, run_text}
-use Rattle.surface_top.specs.StressText.{stress_text}
+use Rattle.run_writer.specs.RunText.{Scene, events_of, run_text}
+use Rattle.run_writer.specs.StressText.{stress_text}
 use Rattle.surface_top.specs.ValueText.{bits_of, value_text}
 
 pub data Answer : Type 0 where

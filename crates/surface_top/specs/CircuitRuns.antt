@@ -11,6 +11,7 @@ use Rattle.crn_compile.specs.Settled.{OutputsAre, work}
 use Rattle.surface_words.specs.declared.commands.Program.TheVariants.{Surface}
 use Rattle.surface_words.specs.declared.words.Words.TheVariants.{Run}
 use Rattle.surface_words.specs.Reading.{reading}
+use Rattle.run_writer.specs.Cuts.{EndsWithText}
 use Rattle.surface_top.specs.Answer.{Text, specified_answer}
 
 -- the words say `run --limit 10000000` with these samples and no duration, whatever the seed, the workers and what these are
@@ -18,10 +19,6 @@ use Rattle.surface_top.specs.Answer.{Text, specified_answer}
 abbrev pub IsLongRun : List (List ℕ) → ℕ → Type 0
 IsLongRun words samples =
     (workers : ℕ) × (seed : Option ℕ) × (quota : ℕ) × (slots : ℕ) × (report : Bool) × (reading Surface words ≡ Some (Run workers seed None samples 10000000 quota slots report))
-
--- the text ends so
-abbrev pub EndsWithText : List ℕ → List ℕ → Type 0
-EndsWithText back text = (front : List ℕ) × (text ≡ front ++ back)
 
 -- The answer to the canonical text of a manifest is a text, which ends after exactly as many events as there is work.
 -- Where surfaces are shown the last of them stands before that end, and on it each output cell has the value of its net.

@@ -17,8 +17,8 @@ use Rattle.surface_top.specs.declared.call.ManifestJob.TheVariants as job
 use Rattle.surface_top.specs.declared.call.CircuitJob.{CircuitJob}
 use Rattle.surface_top.specs.declared.call.CircuitJob.TheVariants as task
 use Rattle.surface_top.specs.declared.run.RunOptions.{RunOptions}
-use Rattle.surface_top.specs.declared.pages.Stop.{Stop}
-use Rattle.surface_top.specs.declared.pages.Stop.TheVariants as stop
+use Rattle.run_writer.specs.declared.pages.Stop.{Stop}
+use Rattle.run_writer.specs.declared.pages.Stop.TheVariants as stop
 use Rattle.surface_top.specs.declared.ending.Ending.{Ending}
 use Rattle.surface_top.specs.declared.ending.Ending.TheVariants as ending
 use Rattle.surface_top.specs.Answer.{Answer, WrongWord, TooLong, BadManifest, BadCircuit, BadNetlist, WrongInputs, TooManySites, EventLimit, Text, run_answer, scene_of, settings_of, ensemble_answer, compile_answer, value_answer}

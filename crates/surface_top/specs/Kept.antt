@@ -21,8 +21,9 @@ use Rattle.surface_top.specs.declared.run.RunOptions.{RunOptions}
 use Rattle.surface_top.specs.declared.ending.Ending.{Ending}
 use Rattle.surface_top.specs.declared.ending.Ending.TheVariants as ending
 use Rattle.surface_top.specs.Answer.{scene_of, is_too_long}
-use Rattle.surface_top.specs.RunText.{Scene, events_of}
-use Rattle.surface_top.specs.Crewed.{IsCrewFor, IsPastLimit, first_of}
+use Rattle.run_writer.specs.RunText.{Scene, events_of}
+use Rattle.run_writer.specs.Crewed.{IsPastLimit}
+use Rattle.surface_top.specs.Crewed.{IsCrewFor, first_of}
 
 -- a run that was asked for: of a manifest, with these options
 pub record Asked : Type 0 where

@@ -11,12 +11,12 @@ ghost use Rattle.manifest_read.specs.Manifest.{IsValid};
 ghost use Rattle.crn_compile.specs.Compiled.{compiled_manifest};
 ghost use Rattle.crn_compile.specs.declared.compiling.CompileError.TheVariants.{WrongInputs, TooManySites as TooMany};
 
-use crate::buffer::Buffer;
 use crate::ending::Ending;
 use circuit_text::Circuit;
 use crn_compile::CompileError;
 use manifest_read::{Manifest, bool_name, kind_name};
 use manifest_write::write_manifest;
+use run_writer::Buffer;
 use std::alloc::{AllocError, Global};
 use surf_kinds::NoMemory;
 use surf_outside::{Failed, Sink, put_all};

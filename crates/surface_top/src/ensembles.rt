@@ -8,13 +8,12 @@ ghost use Rattle.ensemble.specs.Texts.{outcome_text, totals_text, ensemble_text}
 ghost use Rattle.surface_words.specs.Reading.{IsEnsembleInRange};
 ghost use Rattle.surface_top.specs.Answer.{Text, settings_of, ensemble_answer};
 ghost use Rattle.surface_top.specs.Ending.{Answered, write_ending};
-ghost use Rattle.surface_top.specs.Pages.{page, Puts};
+ghost use Rattle.run_writer.specs.Pages.{page, Puts};
 
-use crate::buffer::Buffer;
 use crate::ending::Ending;
-use crate::pages::{Stop, flush, flush_much};
 use ensemble::{EnsembleSettings, Outcome, ensemble, write_outcome, write_totals};
 use manifest_read::Manifest;
+use run_writer::{Buffer, Stop, flush, flush_much};
 use species::Names;
 use std::alloc::Global;
 use std::thread::Threads;

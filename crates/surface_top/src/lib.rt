@@ -11,21 +11,15 @@
 #![tactic(auto)]
 
 mod answers;
-mod buffer;
 mod call;
 mod ending;
 mod ensembles;
 pub mod laws;
 mod message;
 mod netlists;
-mod pages;
 mod report;
-mod rounds;
 mod run;
 mod stress;
-mod surfaces;
-mod ticks;
-mod writer;
 
 pub use call::surface_main;
 pub use surface_words::{Program, Words};

@@ -6,9 +6,9 @@ ghost use Rattle.surface_top.specs.Answer.{by_netlist, bench_answer};
 ghost use Rattle.surface_top.specs.Ending.{IsNoNetlist, Answered};
 
 use crate::answers::put_text;
-use crate::buffer::Buffer;
 use crate::ending::Ending;
 use bench_read::{Bench, BenchError, read_bench, write_circuit};
+use run_writer::Buffer;
 use std::alloc::Global;
 use surf_outside::{Failed, Sink};
 

@@ -1,32 +1,22 @@
 //! What `run` writes of a manifest: a run of its plan on its first surface, by a crew.
 
-ghost use Rattle.std.specs.Prelude.{◌≡◌, ◌^◌, ◌≤◌, List, length, All, None, OnOk, IfOk, IsErrOf, unwrap_or};
+ghost use Rattle.std.specs.Prelude.{◌≡◌, ◌^◌, ◌≤◌, List, All, None, IfOk, unwrap_or};
 ghost use Rattle.surf_kinds.specs.declared.site.SpeciesId.{SpeciesId};
 ghost use Rattle.surf_kinds.specs.Keys.{origin};
-ghost use Rattle.surf_outside.specs.Causes.{Rose};
-ghost use Rattle.surf_outside.specs.Known.{AppendsPrefix};
 ghost use Rattle.lattice.specs.Surface.{first_surface};
 ghost use Rattle.plan.specs.Products.{LeavesWithin};
-ghost use Rattle.warp_core.specs.World.{end_key};
-ghost use Rattle.crew.specs.Crews.{world_in};
 ghost use Rattle.manifest_read.specs.Sound.{IsSound};
 ghost use Rattle.surface_top.specs.Answer.{run_answer, scene_of};
-ghost use Rattle.surface_top.specs.Crewed.{IsCrewFor, IsPastLimit, IsSameCrew, first_of, network_of};
+ghost use Rattle.surface_top.specs.Crewed.{IsCrewFor, first_of, network_of};
 ghost use Rattle.surface_top.specs.Ending.{Answered, HasBounds, run_ending};
 ghost use Rattle.surface_top.specs.Kept.{IsCrewOf, left_by, RunLeaves};
-ghost use Rattle.surface_top.specs.RunText.{run_text};
-ghost use Rattle.surface_top.specs.Stops.{IsLimited, RunGains};
-ghost use Rattle.surface_top.specs.Writing.{scene_of as scene_of_task};
 
 use crate::ending::Ending;
-pub(crate) use crate::pages::Stop;
-use crate::rounds::write_rounds;
-pub(crate) use crate::writer::Span;
-use crate::writer::{Task, Writer};
 use crew::{Crew, CrewSettings};
 use manifest_read::Manifest;
 use plan::Plan;
 use regions::Cut;
+use run_writer::{Span, Stop, Task, write_run};
 use std::alloc::Global;
 use std::thread::Threads;
 use surf_kinds::NoMemory;
@@ -73,40 +63,6 @@ fn crew_of(
     };
     let cut = Cut::bands(plan.lattice(), options.workers as u32);
     Crew::new(alloc, plan, surface, cut, settings)
-}
-
-/// Runs a crew from its first surface on, and writes its run text. Where it has more events than the limit, the text ends
-/// there; after a fault of the sink, and where memory runs out, a prefix of the text was written.
-pub(crate) fn write_run<R: Threads + Sync, O: Sink, G: Gate>(
-    rt: &R,
-    gate: &G,
-    alloc: Global,
-    task: &Task,
-    crew: &mut Crew,
-    surface: Surface,
-    out: &mut O,
-) -> Result<(), Stop>
-    requires lattice { surface.lattice ≡ task.now.plan.now.lattice }
-    requires species_count { surface.species_count ≡ length task.now.names.now }
-    requires species { All (LeavesWithin surface.species_count) task.now.plan.now.rules }
-    requires first { (cells : List SpeciesId) × (surface.sites ≡ first_surface cells) }
-    requires duration { task.now.span.until ≤ 10 ^ 15 }
-    requires samples { task.now.span.samples ≤ 10000 }
-    requires network { crew.old.network ≡ task.now.plan.now }
-    requires until { crew.old.until ≡ task.now.span.until }
-    requires start { crew.old.start ≡ surface }
-    requires horizon { crew.old.horizon ≡ origin }
-    ensures limited { IsLimited result (scene_of_task task.now) surface.sites }
-    ensures text { RunGains result (run_text (scene_of_task task.now) surface.sites) (O.written out.old) (O.written out.new) }
-    ensures prefix { AppendsPrefix (O.written out.old) (O.written out.new) (run_text (scene_of_task task.now) surface.sites) }
-    ensures later { O.faults out.old ≤ O.faults out.new }
-    ensures write { IsErrOf result Stop.Write → Rose (O.faults out.old) (O.faults out.new) }
-    ensures finished { OnOk result (crew.new.horizon ≡ end_key (world_in crew.new)) }
-    ensures past { IsErrOf result Stop.Limit → IsPastLimit (scene_of_task task.now) crew.new }
-    ensures same { IsSameCrew crew.old crew.new }
-{
-    let mut writer = Writer::new(alloc, surface, task.span);
-    write_rounds(rt, gate, task, crew, &mut writer, out)
 }
 
 /// How the call ends after a run.

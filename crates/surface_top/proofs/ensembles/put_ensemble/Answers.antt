@@ -1,6 +1,6 @@
 use Rattle.std.specs.List.{flat_map}
 use Rattle.ensemble.specs.Texts.{outcome_text, totals_text}
-use Rattle.surface_top.proofs.Written.{puts_after, stopped_longer}
+use Rattle.run_writer.proofs.LawLemmas.{puts_after, stopped_longer}
 use Rattle.surface_top.proofs.ensembles.put_ensemble.Goals as goal
 
 pub returns-in-Ok-clause-puts : goal.returns-in-Ok-clause-puts

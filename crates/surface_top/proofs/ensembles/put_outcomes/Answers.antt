@@ -1,6 +1,6 @@
 use Rattle.std.proofs.Common.{arith}
 use Rattle.ensemble.specs.Texts.{outcome_text}
-use Rattle.surface_top.proofs.Written.{wrote_nothing}
+use Rattle.run_writer.proofs.LawLemmas.{wrote_nothing}
 use Rattle.surface_top.proofs.SeedLines.{items_step, items_stop, items_all}
 use Rattle.surface_top.proofs.ensembles.put_outcomes.Goals as goal
 

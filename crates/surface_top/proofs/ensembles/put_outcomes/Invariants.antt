@@ -1,7 +1,7 @@
 use Rattle.std.proofs.Common.{take}
 use Rattle.std.specs.List.{flat_map}
 use Rattle.ensemble.specs.Texts.{outcome_text}
-use Rattle.surface_top.specs.Pages.{page, Wrote}
+use Rattle.run_writer.specs.Pages.{page, Wrote}
 use Rattle.surface_top.proofs.ensembles.put_outcomes.Given as goal
 
 abbrev pub invariant-loop-outcome : goal.invariant-loop-outcome

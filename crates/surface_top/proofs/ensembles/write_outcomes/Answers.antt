@@ -2,7 +2,7 @@ use Rattle.std.proofs.Common.{sym, ap, subst}
 use Rattle.ensemble.specs.Texts.{ensemble_text}
 use Rattle.surface_top.specs.Answer.{Text}
 use Rattle.surface_top.specs.Ending.{Answered}
-use Rattle.surface_top.specs.Pages.{Waiting}
+use Rattle.run_writer.specs.Pages.{Waiting}
 use Rattle.surface_top.proofs.SeedLines.{ensemble_ends}
 use Rattle.surface_top.proofs.ensembles.write_outcomes.Goals as goal
 

@@ -1,10 +1,10 @@
 use Rattle.std.proofs.Common.{◌≡◌, ◌≤◌, length, refl, sym, ap, ◌∙◌, subst}
 use Rattle.std.specs.Prelude.{unwrap_or, OnOk}
 use Rattle.surface_state.specs.SurfaceView.{SurfaceView}
-use Rattle.surface_top.specs.RunText.{Scene, events_of}
+use Rattle.run_writer.specs.RunText.{Scene, events_of}
 use Rattle.surface_top.specs.Answer.{run_answer, scene_of}
 use Rattle.surface_top.specs.Ending.{Answered, run_ending}
-use Rattle.surface_top.specs.Writing.{scene}
+use Rattle.run_writer.specs.Writing.{scene}
 use Rattle.surface_top.specs.Crewed.{first_of, IsCrewFor}
 use Rattle.surface_top.proofs.Leaving.{run_leaves, few_events}
 use Rattle.surface_top.proofs.RunEnds.{run_answers, scene_is}

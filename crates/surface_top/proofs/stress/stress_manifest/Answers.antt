@@ -7,8 +7,8 @@ use Rattle.surface_top.specs.Answer.{stress_answer, stress_scene, scene_of}
 use Rattle.surface_top.specs.Crewed.{first_of, IsCrewFor}
 use Rattle.surface_top.specs.Ending.{Answered, run_ending}
 use Rattle.surface_top.specs.Kept.{stress_options}
-use Rattle.surface_top.specs.RunText.{Scene, events_of}
-use Rattle.surface_top.specs.Writing.{scene}
+use Rattle.run_writer.specs.RunText.{Scene, events_of}
+use Rattle.run_writer.specs.Writing.{scene}
 use Rattle.surface_top.proofs.Leaving.{run_leaves, few_events}
 use Rattle.surface_top.proofs.RunEnds.{scene_is}
 use Rattle.surface_top.proofs.Stressing.{stress_answers}

@@ -1,0 +1,9 @@
+pub mod RunText
+pub mod Pages
+pub mod Ticks
+pub mod Writing
+pub mod Stops
+pub mod Cuts
+pub mod Crewed
+pub mod StressText
+pub mod Counting

@@ -1,0 +1,111 @@
+//! A run by a crew: what its rounds hand out is written as they end.
+
+ghost use Rattle.std.specs.Prelude.{◌≡◌, ◌≢◌, ◌<◌, ◌≤◌, ◌^◌, List, All, [], length, OnOk, IsErrOf};
+ghost use Rattle.surf_kinds.specs.declared.site.SpeciesId.{SpeciesId};
+ghost use Rattle.surf_kinds.specs.Keys.{origin};
+ghost use Rattle.surf_outside.specs.Causes.{Rose};
+ghost use Rattle.surf_outside.specs.Known.{AppendsPrefix};
+ghost use Rattle.lattice.specs.Surface.{first_surface};
+ghost use Rattle.plan.specs.Products.{LeavesWithin};
+ghost use Rattle.warp_core.specs.World.{end_key};
+ghost use Rattle.crew.specs.Crews.{world_in};
+ghost use Rattle.run_writer.specs.Crewed.{IsAlong, IsPastLimit, IsSameCrew, rounds_left};
+ghost use Rattle.run_writer.specs.Pages.{page};
+ghost use Rattle.run_writer.specs.RunText.{run_text};
+ghost use Rattle.run_writer.specs.Stops.{IsLimited, RunGains};
+ghost use Rattle.run_writer.specs.Writing.{scene_of, reached_of, IsReady, Advances, Ends};
+
+use crate::pages::Stop;
+use crate::writer::{Task, Writer};
+use crew::Crew;
+use std::alloc::Global;
+use std::thread::Threads;
+use surf_kinds::NoMemory;
+use surf_outside::{Gate, Sink};
+use surface_state::Surface;
+
+/// Makes a round, and writes the events that it hands out. All of them have gone out before the next round begins.
+fn write_round<R: Threads + Sync, O: Sink, G: Gate>(
+    rt: &R,
+    gate: &G,
+    task: &Task,
+    crew: &mut Crew,
+    writer: &mut Writer,
+    out: &mut O,
+) -> Result<(), Stop>
+    requires unfinished { crew.old.horizon ≢ end_key (world_in crew.old) }
+    requires ready { IsReady (scene_of task.now) writer.old }
+    requires along { IsAlong (scene_of task.now) crew.old (reached_of writer.old) }
+    ensures advances { Advances (scene_of task.now) (reached_of writer.old) (reached_of writer.new) (page (O.written out.old) (O.faults out.old) writer.old.buffer) (page (O.written out.new) (O.faults out.new) writer.new.buffer) result }
+    ensures ready { OnOk result (IsReady (scene_of task.now) writer.new) }
+    ensures along { OnOk result (IsAlong (scene_of task.now) crew.new (reached_of writer.new)) }
+    ensures sent { OnOk result (writer.new.buffer.bytes ≡ []) }
+    ensures fewer { OnOk result (rounds_left (scene_of task.now) crew.new writer.new.surface.sites < rounds_left (scene_of task.now) crew.old writer.old.surface.sites) }
+    ensures limited { IsErrOf result Stop.Limit → IsPastLimit (scene_of task.now) crew.new }
+    ensures same { IsSameCrew crew.old crew.new }
+{
+    let events = match crew.round(rt, gate) {
+        Ok(events) => events,
+        Err(NoMemory) => return Err(Stop::Memory),
+    };
+    writer.write_events(task, out, events.as_slice())
+}
+
+/// Makes rounds until the crew is finished, and writes what they hand out and the end.
+fn write_rounds<R: Threads + Sync, O: Sink, G: Gate>(
+    rt: &R,
+    gate: &G,
+    task: &Task,
+    crew: &mut Crew,
+    writer: &mut Writer,
+    out: &mut O,
+) -> Result<(), Stop>
+    requires ready { IsReady (scene_of task.now) writer.old }
+    requires along { IsAlong (scene_of task.now) crew.old (reached_of writer.old) }
+    ensures ends { Ends (scene_of task.now) (reached_of writer.old) (page (O.written out.old) (O.faults out.old) writer.old.buffer) (page (O.written out.new) (O.faults out.new) writer.new.buffer) result }
+    ensures finished { OnOk result (crew.new.horizon ≡ end_key (world_in crew.new)) }
+    ensures limited { IsErrOf result Stop.Limit → IsPastLimit (scene_of task.now) crew.new }
+    ensures same { IsSameCrew crew.old crew.new }
+{
+    while !crew.finished() {
+        match write_round(rt, gate, task, crew, writer, out) {
+            Ok(()) => {}
+            Err(stop) => return Err(stop),
+        }
+    }
+    writer.end(task, out)
+}
+
+/// Runs a crew from its first surface on, and writes its run text. Where it has more events than the limit, the text ends
+/// there; after a fault of the sink, and where memory runs out, a prefix of the text was written.
+pub fn write_run<R: Threads + Sync, O: Sink, G: Gate>(
+    rt: &R,
+    gate: &G,
+    alloc: Global,
+    task: &Task,
+    crew: &mut Crew,
+    surface: Surface,
+    out: &mut O,
+) -> Result<(), Stop>
+    requires lattice { surface.lattice ≡ task.now.plan.now.lattice }
+    requires species_count { surface.species_count ≡ length task.now.names.now }
+    requires species { All (LeavesWithin surface.species_count) task.now.plan.now.rules }
+    requires first { (cells : List SpeciesId) × (surface.sites ≡ first_surface cells) }
+    requires duration { task.now.span.until ≤ 10 ^ 15 }
+    requires samples { task.now.span.samples ≤ 10000 }
+    requires network { crew.old.network ≡ task.now.plan.now }
+    requires until { crew.old.until ≡ task.now.span.until }
+    requires start { crew.old.start ≡ surface }
+    requires horizon { crew.old.horizon ≡ origin }
+    ensures limited { IsLimited result (scene_of task.now) surface.sites }
+    ensures text { RunGains result (run_text (scene_of task.now) surface.sites) (O.written out.old) (O.written out.new) }
+    ensures prefix { AppendsPrefix (O.written out.old) (O.written out.new) (run_text (scene_of task.now) surface.sites) }
+    ensures later { O.faults out.old ≤ O.faults out.new }
+    ensures write { IsErrOf result Stop.Write → Rose (O.faults out.old) (O.faults out.new) }
+    ensures finished { OnOk result (crew.new.horizon ≡ end_key (world_in crew.new)) }
+    ensures past { IsErrOf result Stop.Limit → IsPastLimit (scene_of task.now) crew.new }
+    ensures same { IsSameCrew crew.old crew.new }
+{
+    let mut writer = Writer::new(alloc, surface, task.span);
+    write_rounds(rt, gate, task, crew, &mut writer, out)
+}

@@ -1,5 +1,0 @@
-use Rattle.surface_top.proofs.Applying.{Applying}
-use Rattle.surface_top.proofs.stress.apply_events.Given as goal
-
-abbrev pub invariant-loop-event : goal.invariant-loop-event
-invariant-loop-event l = Applying l.plan l.fn.surface l.surface l.tick l.last l.events l.event-index

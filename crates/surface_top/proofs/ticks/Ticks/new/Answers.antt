@@ -1,5 +1,0 @@
-use Rattle.surface_top.proofs.Sampling.{ticks_within}
-use Rattle.surface_top.proofs.ticks.Ticks.new.Goals as goal
-
-pub returns-clause-within : goal.returns-clause-within
-returns-clause-within c = ticks_within c.args.until c.args.samples

@@ -1,9 +1,0 @@
-use Rattle.surface_top.specs.Pages.{page}
-use Rattle.surface_top.specs.Writing.{scene_of}
-use Rattle.surface_top.proofs.Batches.{WritingList}
-use Rattle.surface_top.proofs.writer.Writer.write_events.Given as goal
-
-abbrev pub invariant-loop-event : goal.invariant-loop-event
-invariant-loop-event g l =
-    WritingList (scene_of l.task) l.fn.self l.self l.events l.event-index
-    (page (g.O.Sink.written l.fn.out) (g.O.Sink.faults l.fn.out) l.fn.self.buffer) (page (g.O.Sink.written l.out) (g.O.Sink.faults l.out) l.self.buffer)
