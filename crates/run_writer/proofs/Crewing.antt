@@ -27,7 +27,7 @@ use Rattle.run_writer.specs.Pages.{Page}
 use Rattle.run_writer.specs.RunText.{Scene, Reached, start, events_of}
 use Rattle.run_writer.specs.Writing.{reached_of, IsReady, Progress}
 use Rattle.run_writer.proofs.Endings.{first_fresh}
-use Rattle.run_writer.specs.Crewed.{IsAlong, IsPastLimit, IsSameCrew, rounds_left}
+use Rattle.run_writer.specs.Crewed.{IsAlong, IsPastLimit, IsSameCrew, rounds_left, first_in, handed_by}
 
 -- Parts of a history
 
@@ -100,6 +100,28 @@ round_next s c d r es along later is =
     (subst (λ (l : List Event). AreNext c.network c.until r.sites l) (sym is)
     (subst (λ (x : List SiteState). AreNext c.network c.until x (from c.horizon (below d.horizon (world_in c).history))) (sym along.reached)
     (between_next c.network c.until (world_in c).start c.horizon d.horizon (lt_to_le c.horizon d.horizon later)))))
+
+-- all that was handed out then
+round_handed : (c : CrewView) (horizon : Key) (es : List Event) → c.horizon is_below horizon → es ≡ from c.horizon (below horizon (world_in c).history) → below horizon (world_in c).history ≡ handed_by c ++ es
+round_handed c horizon es later is =
+    cut_twice c.horizon horizon (world_in c).history (rises c.network c.until (world_in c).start) (lt_to_le c.horizon horizon later) ∙ ap (λ l. handed_by c ++ l) (sym is)
+
+-- are the first events of the history
+pub round_upto : (s : Scene) (c d : CrewView) (r : Reached) (es : List Event) → IsAlong s c r → c.horizon is_below d.horizon → es ≡ from c.horizon (below d.horizon (world_in c).history) → AreNext s.network s.until (first_in c) (handed_by c ++ es)
+round_upto s c d r es along later is =
+    let all : List Event = (world_in c).history in
+    let whole : AreNext c.network c.until (first_in c) (below d.horizon all ++ from d.horizon all) =
+    subst (AreNext c.network c.until (first_in c)) (parted d.horizon all (rises c.network c.until (first_in c))) (all_next c.network c.until all (first_in c) (is_history c.network c.until (first_in c))) in
+    subst (λ (n : Network). AreNext n s.until (first_in c) (handed_by c ++ es)) along.network
+    (subst (λ (u : ℕ). AreNext c.network u (first_in c) (handed_by c ++ es)) along.until
+    (subst (AreNext c.network c.until (first_in c)) (round_handed c d.horizon es later is)
+    (first_next c.network c.until (below d.horizon all) (from d.horizon all) (first_in c) whole)))
+
+-- who has seen all of them has seen what the crew has handed out
+pub round_seen : (P : List SiteState → List Event → Type 0) (c d : CrewView) (horizon : Key) (rounds committed : ℕ) (regions : List Region) (es : List Event) → d ≡ record c { horizon = horizon; rounds = rounds; committed = committed; regions = regions } → c.horizon is_below horizon
+    → es ≡ from c.horizon (below horizon (world_in c).history) → P (first_in c) (handed_by c ++ es) → P (first_in d) (handed_by d)
+round_seen P c d horizon rounds committed regions es moved later is seen =
+    subst (λ (x : CrewView). P (first_in x) (handed_by x)) (sym moved) (subst (P (first_in c)) (sym (round_handed c horizon es later is)) seen)
 
 -- the same with the other numbers and regions that a round leaves
 pub round_along : (s : Scene) (c d : CrewView) (rounds committed : ℕ) (r q : Reached) (es : List Event) → IsAlong s c r → c.horizon is_below d.horizon → es ≡ from c.horizon (below d.horizon (world_in c).history)
@@ -193,6 +215,11 @@ finished_none s c r along ends =
     ∙ end_none c.network c.until (world_in c).start))
 
 -- what follows where a call went well
+
+pub on_ok_both : {T E P Q S : Type 0} (r : Result T E) → (P → Q → S) → OnOk r P → OnOk r Q → OnOk r S
+on_ok_both (Ok x) f p q = f p q
+on_ok_both (Err e) f p q = tt
+
 pub on_ok_then : {T E P Q : Type 0} (r : Result T E) → (P → Q) → OnOk r P → OnOk r Q
 on_ok_then (Ok x) f p = f p
 on_ok_then (Err e) f p = tt
@@ -215,13 +242,36 @@ pub record WritingRounds (s : Scene) (c d : CrewView) (w v : Writer) (a b : Page
 below_origin : (es : List Event) → below origin es ≡ []
 below_origin es = keep_none (λ k. is_before k origin) es (all_keys (λ k. is_before k origin ≡ false) is_upto_origin es)
 
+handed_none : (c : CrewView) → c.horizon ≡ origin → handed_by c ≡ []
+handed_none c horizon = ap (λ (k : Key). below k (world_in c).history) horizon ∙ below_origin (world_in c).history
+
+starts_at : (c : CrewView) (cells : List SpeciesId) → c.start.sites ≡ first_surface cells → c.start.sites ≡ first_in c
+starts_at c cells is = fresh_sites c.start.sites (subst (All IsFresh) (sym is) (first_fresh cells))
+
 -- has handed out nothing
-pub along_first : (s : Scene) (c : CrewView) (first : SurfaceView) (cells : List SpeciesId) → c.network ≡ s.network → c.until ≡ s.until → c.start ≡ first → c.horizon ≡ origin → first.sites ≡ first_surface cells → IsAlong s c (start s first.sites)
-along_first s c first cells network until start horizon is = record {
+pub along_first : (s : Scene) (c : CrewView) (cells : List SpeciesId) → c.network ≡ s.network → c.until ≡ s.until → c.horizon ≡ origin → c.start.sites ≡ first_surface cells → IsAlong s c (start s c.start.sites)
+along_first s c cells network until horizon is = record {
   network = network;
   until = until;
-  reached = fresh_sites first.sites (subst (All IsFresh) (sym is) (first_fresh cells))
-      ∙ (ap (λ (x : SurfaceView). first_surface (species_of x)) (sym start)
-      ∙ ap (after_all c.network.lattice c.network.rules (world_in c).start) (sym (ap (λ (k : Key). below k (world_in c).history) horizon ∙ below_origin (world_in c).history)));
-  count = sym (ap length (ap (λ (k : Key). below k (world_in c).history) horizon ∙ below_origin (world_in c).history));
+  reached = starts_at c cells is ∙ ap (after_all c.network.lattice c.network.rules (first_in c)) (sym (handed_none c horizon));
+  count = sym (ap length (handed_none c horizon));
 }
+
+-- so who has seen none of its events has seen that
+pub seen_first : (P : List SiteState → List Event → Type 0) (c : CrewView) (cells : List SpeciesId) → c.horizon ≡ origin → c.start.sites ≡ first_surface cells → P c.start.sites [] → P (first_in c) (handed_by c)
+seen_first P c cells horizon is seen =
+    subst (λ (x : List SiteState). P x (handed_by c)) (starts_at c cells is) (subst (P c.start.sites) (sym (handed_none c horizon)) seen)
+
+-- A finished one has handed out all events of the run
+pub seen_all : (P : List SiteState → List Event → Type 0) (s : Scene) (c d : CrewView) (cells : List SpeciesId) → c.network ≡ s.network → c.until ≡ s.until → c.start.sites ≡ first_surface cells → IsSameCrew c d → d.horizon ≡ end_key (world_in d)
+    → P (first_in d) (handed_by d) → P c.start.sites (events_of s c.start.sites)
+seen_all P s c d cells network until is same ends seen =
+    let first : first_in d ≡ c.start.sites =
+    sym (starts_at d cells (ap (λ (x : SurfaceView). x.sites) same.start ∙ is)) ∙ ap (λ (x : SurfaceView). x.sites) same.start in
+    let events : handed_by d ≡ events_of s c.start.sites =
+    ap (λ (k : Key). below k (world_in d).history) ends
+    ∙ (keep_all (λ k. is_before k (end_key (world_in d))) (world_in d).history (within_end d.network d.until (world_in d).history (first_in d) (is_history d.network d.until (first_in d)))
+    ∙ (ap (λ (x : List SiteState). history d.network d.until x) first
+    ∙ (ap (λ (n : Network). history n d.until c.start.sites) (same.network ∙ network)
+    ∙ ap (λ (u : ℕ). history s.network u c.start.sites) (same.until ∙ until)))) in
+    subst (λ (x : List SiteState). P x (events_of s c.start.sites)) first (subst (P (first_in d)) events seen)

@@ -1,11 +1,20 @@
 -- A run by a crew, and how far it has come.
 use Rattle.std.specs.Prelude.{◌≡◌, ℕ, ◌+◌, ◌<◌, List, length, if◌then◌else◌}
+use Rattle.surf_kinds.specs.declared.event.Event.{Event}
 use Rattle.surf_kinds.specs.declared.site.SiteState.{SiteState}
 use Rattle.surf_kinds.specs.Keys.{below, same_key}
 use Rattle.lattice.specs.Surface.{after_all}
 use Rattle.warp_core.specs.World.{end_key}
 use Rattle.crew.specs.Crews.{CrewView, world_in}
 use Rattle.run_writer.specs.RunText.{Scene, Reached, events_of}
+
+-- the first surface of a crew's run, and the events that it has handed out
+
+abbrev pub first_in : CrewView → List SiteState
+first_in c = (world_in c).start
+
+abbrev pub handed_by : CrewView → List Event
+handed_by c = below c.horizon (world_in c).history
 
 -- The crew runs the scene, which has come as far as the events that the crew has handed out.
 pub record IsAlong (s : Scene) (c : CrewView) (r : Reached) : Type 0 where

@@ -1,41 +1,81 @@
-//! A run by a crew: what its rounds hand out is written as they end.
+//! A run by a crew: what its rounds hand out is written as they end, and an observer is told of it.
 
-ghost use Rattle.std.specs.Prelude.{◌≡◌, ◌≢◌, ◌<◌, ◌≤◌, ◌^◌, List, All, [], length, OnOk, IsErrOf};
+ghost use Rattle.std.specs.Prelude.{◌≡◌, ◌≢◌, ◌<◌, ◌≤◌, ◌+◌, ◌-◌, ◌^◌, ◌++◌, List, All, [], length, OnOk, IsErrOf};
+ghost use Rattle.surf_kinds.specs.declared.event.Event.{Event as TheEvent};
+ghost use Rattle.surf_kinds.specs.declared.site.SiteState.{SiteState as TheSite};
 ghost use Rattle.surf_kinds.specs.declared.site.SpeciesId.{SpeciesId};
 ghost use Rattle.surf_kinds.specs.Keys.{origin};
 ghost use Rattle.surf_outside.specs.Causes.{Rose};
 ghost use Rattle.surf_outside.specs.Known.{AppendsPrefix};
-ghost use Rattle.lattice.specs.Surface.{first_surface};
+ghost use Rattle.lattice.specs.Surface.{after_all, first_surface};
+ghost use Rattle.plan.specs.History.{AreNext};
 ghost use Rattle.plan.specs.Products.{LeavesWithin};
 ghost use Rattle.warp_core.specs.World.{end_key};
 ghost use Rattle.crew.specs.Crews.{world_in};
-ghost use Rattle.run_writer.specs.Crewed.{IsAlong, IsPastLimit, IsSameCrew, rounds_left};
+ghost use Rattle.run_writer.specs.Crewed.{IsAlong, IsPastLimit, IsSameCrew, rounds_left, first_in, handed_by};
 ghost use Rattle.run_writer.specs.Pages.{page};
-ghost use Rattle.run_writer.specs.RunText.{run_text};
+ghost use Rattle.run_writer.specs.RunText.{events_of, run_text};
 ghost use Rattle.run_writer.specs.Stops.{IsLimited, RunGains};
-ghost use Rattle.run_writer.specs.Writing.{scene_of, reached_of, IsReady, Advances, Ends};
+ghost use Rattle.run_writer.specs.Writing.{scene_of, reached_of, Begins, IsReady, Advances, Ends};
 
 use crate::pages::Stop;
 use crate::writer::{Task, Writer};
 use crew::Crew;
 use std::alloc::Global;
 use std::thread::Threads;
-use surf_kinds::NoMemory;
+use surf_kinds::{Event, NoMemory};
 use surf_outside::{Gate, Sink};
 use surface_state::Surface;
+use watching::Observer;
 
-/// Makes a round, and writes the events that it hands out. All of them have gone out before the next round begins.
-fn write_round<R: Threads + Sync, O: Sink, G: Gate>(
+/// Writes the next events, and tells the observer of them once all have gone out.
+fn write_and_tell<R, O: Sink, W: Observer<R>>(
+    rt: &R,
+    task: &Task,
+    writer: &mut Writer,
+    out: &mut O,
+    observer: &mut W,
+    events: &[Event],
+) -> Result<(), Stop>
+    requires ready { IsReady (scene_of task.now) writer.old }
+    requires next { AreNext task.now.plan.now task.now.span.until writer.old.surface.sites events.now }
+    requires limit { task.now.span.limit < 2 ^ 64 - 1 }
+    requires seen { (first : List TheSite) × (es : List TheEvent) × W.has_seen observer.old task.now.plan.now first es × AreNext task.now.plan.now task.now.span.until first (es ++ events.now) × (writer.old.events ≡ length es) }
+    ensures advances { Advances (scene_of task.now) (reached_of writer.old) (reached_of writer.new) (page (O.written out.old) (O.faults out.old) writer.old.buffer) (page (O.written out.new) (O.faults out.new) writer.new.buffer) result }
+    ensures count { OnOk result (writer.new.events ≡ writer.old.events + length events.now) }
+    ensures limit { IsErrOf result Stop.Limit → task.now.span.limit < writer.old.events + length events.now }
+    ensures sites { OnOk result (writer.new.surface.sites ≡ after_all task.now.plan.now.lattice task.now.plan.now.rules writer.old.surface.sites events.now) }
+    ensures ready { OnOk result (IsReady (scene_of task.now) writer.new) }
+    ensures sent { OnOk result (writer.new.buffer.bytes ≡ []) }
+    ensures seen { OnOk result ((first : List TheSite) (es : List TheEvent) → W.has_seen observer.old task.now.plan.now first es → AreNext task.now.plan.now task.now.span.until first (es ++ events.now) → W.has_seen observer.new task.now.plan.now first (es ++ events.now)) }
+    ensures mark { W.mark observer.new ≡ W.mark observer.old }
+{
+    match writer.write_events(task, out, events) {
+        Ok(()) => {}
+        Err(stop) => return Err(stop),
+    }
+    match observer.saw(rt, task.plan, events) {
+        Ok(()) => Ok(()),
+        Err(NoMemory) => Err(Stop::Memory),
+    }
+}
+
+/// Makes a round, and writes the events that it hands out. All of them have gone out, and the observer was told of them,
+/// before the next round begins.
+fn write_round<R: Threads + Sync, O: Sink, G: Gate, W: Observer<R>>(
     rt: &R,
     gate: &G,
     task: &Task,
     crew: &mut Crew,
     writer: &mut Writer,
     out: &mut O,
+    observer: &mut W,
 ) -> Result<(), Stop>
+    requires limit { task.now.span.limit < 2 ^ 64 - 1 }
     requires unfinished { crew.old.horizon ≢ end_key (world_in crew.old) }
     requires ready { IsReady (scene_of task.now) writer.old }
     requires along { IsAlong (scene_of task.now) crew.old (reached_of writer.old) }
+    requires seen { W.has_seen observer.old task.now.plan.now (first_in crew.old) (handed_by crew.old) }
     ensures advances { Advances (scene_of task.now) (reached_of writer.old) (reached_of writer.new) (page (O.written out.old) (O.faults out.old) writer.old.buffer) (page (O.written out.new) (O.faults out.new) writer.new.buffer) result }
     ensures ready { OnOk result (IsReady (scene_of task.now) writer.new) }
     ensures along { OnOk result (IsAlong (scene_of task.now) crew.new (reached_of writer.new)) }
@@ -43,32 +83,39 @@ fn write_round<R: Threads + Sync, O: Sink, G: Gate>(
     ensures fewer { OnOk result (rounds_left (scene_of task.now) crew.new writer.new.surface.sites < rounds_left (scene_of task.now) crew.old writer.old.surface.sites) }
     ensures limited { IsErrOf result Stop.Limit → IsPastLimit (scene_of task.now) crew.new }
     ensures same { IsSameCrew crew.old crew.new }
+    ensures seen { OnOk result (W.has_seen observer.new task.now.plan.now (first_in crew.new) (handed_by crew.new)) }
+    ensures mark { W.mark observer.new ≡ W.mark observer.old }
 {
     let events = match crew.round(rt, gate) {
         Ok(events) => events,
         Err(NoMemory) => return Err(Stop::Memory),
     };
-    writer.write_events(task, out, events.as_slice())
+    write_and_tell(rt, task, writer, out, observer, events.as_slice())
 }
 
 /// Makes rounds until the crew is finished, and writes what they hand out and the end.
-fn write_rounds<R: Threads + Sync, O: Sink, G: Gate>(
+fn make_rounds<R: Threads + Sync, O: Sink, G: Gate, W: Observer<R>>(
     rt: &R,
     gate: &G,
     task: &Task,
     crew: &mut Crew,
     writer: &mut Writer,
     out: &mut O,
+    observer: &mut W,
 ) -> Result<(), Stop>
+    requires limit { task.now.span.limit < 2 ^ 64 - 1 }
     requires ready { IsReady (scene_of task.now) writer.old }
     requires along { IsAlong (scene_of task.now) crew.old (reached_of writer.old) }
+    requires seen { W.has_seen observer.old task.now.plan.now (first_in crew.old) (handed_by crew.old) }
     ensures ends { Ends (scene_of task.now) (reached_of writer.old) (page (O.written out.old) (O.faults out.old) writer.old.buffer) (page (O.written out.new) (O.faults out.new) writer.new.buffer) result }
     ensures finished { OnOk result (crew.new.horizon ≡ end_key (world_in crew.new)) }
     ensures limited { IsErrOf result Stop.Limit → IsPastLimit (scene_of task.now) crew.new }
     ensures same { IsSameCrew crew.old crew.new }
+    ensures seen { OnOk result (W.has_seen observer.new task.now.plan.now (first_in crew.new) (handed_by crew.new)) }
+    ensures mark { W.mark observer.new ≡ W.mark observer.old }
 {
     while !crew.finished() {
-        match write_round(rt, gate, task, crew, writer, out) {
+        match write_round(rt, gate, task, crew, writer, out, observer) {
             Ok(()) => {}
             Err(stop) => return Err(stop),
         }
@@ -76,9 +123,46 @@ fn write_rounds<R: Threads + Sync, O: Sink, G: Gate>(
     writer.end(task, out)
 }
 
-/// Runs a crew from its first surface on, and writes its run text. Where it has more events than the limit, the text ends
-/// there; after a fault of the sink, and where memory runs out, a prefix of the text was written.
-pub fn write_run<R: Threads + Sync, O: Sink, G: Gate>(
+/// Runs a crew from its first surface on, and writes its run text with a writer that has written nothing of it. All that a
+/// round hands out has gone out, and the observer was told of it, before the next round begins. Where the run has more events
+/// than the limit, the text ends there; after a fault of the sink, and where memory runs out, a prefix of the text was
+/// written.
+pub fn write_rounds<R: Threads + Sync, O: Sink, G: Gate, W: Observer<R>>(
+    rt: &R,
+    gate: &G,
+    task: &Task,
+    crew: &mut Crew,
+    writer: &mut Writer,
+    out: &mut O,
+    observer: &mut W,
+) -> Result<(), Stop>
+    requires lattice { crew.old.start.lattice ≡ task.now.plan.now.lattice }
+    requires species_count { crew.old.start.species_count ≡ length task.now.names.now }
+    requires species { All (LeavesWithin crew.old.start.species_count) task.now.plan.now.rules }
+    requires first { (cells : List SpeciesId) × (crew.old.start.sites ≡ first_surface cells) }
+    requires duration { task.now.span.until ≤ 10 ^ 15 }
+    requires limit { task.now.span.limit < 2 ^ 64 - 1 }
+    requires network { crew.old.network ≡ task.now.plan.now }
+    requires until { crew.old.until ≡ task.now.span.until }
+    requires horizon { crew.old.horizon ≡ origin }
+    requires begins { Begins task.now.span crew.old.start writer.old }
+    requires seen { W.has_seen observer.old task.now.plan.now crew.old.start.sites [] }
+    ensures limited { IsLimited result (scene_of task.now) crew.old.start.sites }
+    ensures text { RunGains result (run_text (scene_of task.now) crew.old.start.sites) (O.written out.old) (O.written out.new) }
+    ensures prefix { AppendsPrefix (O.written out.old) (O.written out.new) (run_text (scene_of task.now) crew.old.start.sites) }
+    ensures later { O.faults out.old ≤ O.faults out.new }
+    ensures write { IsErrOf result Stop.Write → Rose (O.faults out.old) (O.faults out.new) }
+    ensures finished { OnOk result (crew.new.horizon ≡ end_key (world_in crew.new)) }
+    ensures past { IsErrOf result Stop.Limit → IsPastLimit (scene_of task.now) crew.new }
+    ensures same { IsSameCrew crew.old crew.new }
+    ensures seen { OnOk result (W.has_seen observer.new task.now.plan.now crew.old.start.sites (events_of (scene_of task.now) crew.old.start.sites)) }
+    ensures mark { W.mark observer.new ≡ W.mark observer.old }
+{
+    make_rounds(rt, gate, task, crew, writer, out, observer)
+}
+
+/// Runs a crew from its first surface on, and writes its run text with a writer of its own, as [`write_rounds`] does.
+pub fn write_run<R: Threads + Sync, O: Sink, G: Gate, W: Observer<R>>(
     rt: &R,
     gate: &G,
     alloc: Global,
@@ -86,6 +170,7 @@ pub fn write_run<R: Threads + Sync, O: Sink, G: Gate>(
     crew: &mut Crew,
     surface: Surface,
     out: &mut O,
+    observer: &mut W,
 ) -> Result<(), Stop>
     requires lattice { surface.lattice ≡ task.now.plan.now.lattice }
     requires species_count { surface.species_count ≡ length task.now.names.now }
@@ -93,10 +178,12 @@ pub fn write_run<R: Threads + Sync, O: Sink, G: Gate>(
     requires first { (cells : List SpeciesId) × (surface.sites ≡ first_surface cells) }
     requires duration { task.now.span.until ≤ 10 ^ 15 }
     requires samples { task.now.span.samples ≤ 10000 }
+    requires limit { task.now.span.limit < 2 ^ 64 - 1 }
     requires network { crew.old.network ≡ task.now.plan.now }
     requires until { crew.old.until ≡ task.now.span.until }
     requires start { crew.old.start ≡ surface }
     requires horizon { crew.old.horizon ≡ origin }
+    requires seen { W.has_seen observer.old task.now.plan.now surface.sites [] }
     ensures limited { IsLimited result (scene_of task.now) surface.sites }
     ensures text { RunGains result (run_text (scene_of task.now) surface.sites) (O.written out.old) (O.written out.new) }
     ensures prefix { AppendsPrefix (O.written out.old) (O.written out.new) (run_text (scene_of task.now) surface.sites) }
@@ -105,7 +192,9 @@ pub fn write_run<R: Threads + Sync, O: Sink, G: Gate>(
     ensures finished { OnOk result (crew.new.horizon ≡ end_key (world_in crew.new)) }
     ensures past { IsErrOf result Stop.Limit → IsPastLimit (scene_of task.now) crew.new }
     ensures same { IsSameCrew crew.old crew.new }
+    ensures seen { OnOk result (W.has_seen observer.new task.now.plan.now surface.sites (events_of (scene_of task.now) surface.sites)) }
+    ensures mark { W.mark observer.new ≡ W.mark observer.old }
 {
     let mut writer = Writer::new(alloc, surface, task.span);
-    write_rounds(rt, gate, task, crew, &mut writer, out)
+    write_rounds(rt, gate, task, crew, &mut writer, out, observer)
 }

@@ -54,7 +54,7 @@ fn is_long(names: &Names, surface: &Surface) -> bool {
 /// Writes the text of a run from its events, which are handed to it in the order of the history, in lists of any
 /// length. At the end of each list all of it has gone out. It has a surface of its own, on which the events happen again.
 #[derive(Drop)]
-pub(crate) struct Writer {
+pub struct Writer {
     surface: Surface,
     tally: Tally,
     /// How many events were written.
@@ -66,7 +66,7 @@ pub(crate) struct Writer {
 
 impl Writer {
     /// A writer that has written nothing of the run of this surface.
-    pub(crate) fn new(alloc: Global, surface: Surface, span: Span) -> Writer
+    pub fn new(alloc: Global, surface: Surface, span: Span) -> Writer
         requires duration { span.until ≤ 10 ^ 15 }
         requires samples { span.samples ≤ 10000 }
         ensures { Begins span surface result }

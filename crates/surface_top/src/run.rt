@@ -22,6 +22,7 @@ use std::thread::Threads;
 use surf_kinds::NoMemory;
 use surf_outside::{Gate, Sink};
 use surface_state::Surface;
+use watching::Nobody;
 
 /// The options of a run.
 #[derive(Clone, Copy)]
@@ -183,7 +184,7 @@ pub(crate) fn run_manifest<R: Threads + Sync, O: Sink, G: Gate>(
         plan: &plan,
         span: span_of(manifest, options),
     };
-    let run = write_run(rt, gate, alloc, &task, &mut crew, surface, out);
+    let run = write_run(rt, gate, alloc, &task, &mut crew, surface, out, &mut Nobody);
     let ending = ending_of(run, options.limit);
     *kept = left_by(ending, crew);
     ending
