@@ -23,12 +23,3 @@ mod stress;
 
 pub use call::surface_main;
 pub use surface_words::{Program, Words};
-
-#[cfg(test)]
-mod circuit_tests;
-#[cfg(test)]
-mod compact_tests;
-#[cfg(test)]
-mod netlist_tests;
-#[cfg(test)]
-mod tests;

@@ -1,24 +1,31 @@
-use super::*;
-use std::alloc::Global;
-use std::process::Abort;
-use std::test::Fail;
-use std::thread::Threads;
+//! Words and texts, and what the program answers.
+
 use surf_kinds::Status;
-use surf_outside::{MemSink, MemSource, OpenGate};
-use surf_text::word_list;
 
 /// Words in one line, a text, and what the call answers: its status, and what stands in the sink and in the notes.
 #[derive(Clone, Copy)]
-struct Row {
-    line: &'static str,
-    text: &'static str,
-    status: Status,
-    out: &'static str,
-    notes: &'static str,
+pub(crate) struct Row {
+    pub line: &'static str,
+    pub text: &'static str,
+    pub status: Status,
+    pub out: &'static str,
+    pub notes: &'static str,
 }
 
 pub(crate) const CATALYST: &str =
     "!START_TRANSITION_RULES\n(1000000000) A + B -> A + C\n!END_TRANSITION_RULES\n!START_INIT_STATE\nB A B\n!END_INIT_STATE\n";
+
+/// What a run of CATALYST writes, of 103 bytes.
+pub(crate) const CATALYST_RUN: &str =
+    "event 1 0 0 east 0 1\nevent 2 0 1 east 0 0\nsurface 100000000 2\nC A C\ncounts A:1 B:0 C:2\nend 100000000 2\n";
+
+/// Two rows whose sites fire at each tick.
+pub(crate) const RENEWAL: &str =
+    "max_duration = 0.000003\n!START_TRANSITION_RULES\n(1000000000) A -> A\n!END_TRANSITION_RULES\n!START_INIT_STATE\nA\nA\n!END_INIT_STATE\n";
+
+/// What a run of RENEWAL writes.
+pub(crate) const RENEWAL_RUN: &str =
+    "event 1 0 0 self 0 0\nevent 1 1 0 self 0 0\nevent 2 0 0 self 0 0\nevent 2 1 0 self 0 0\nevent 3 0 0 self 0 0\nevent 3 1 0 self 0 0\nsurface 3 6\nA\nA\ncounts A:2\nend 3 6\n";
 
 const DECAY: &str =
     "!START_TRANSITION_RULES\n(1000000000) A -> B\n!END_TRANSITION_RULES\n!START_INIT_STATE\nA A\n!END_INIT_STATE\n";
@@ -31,13 +38,24 @@ const DEMO_TEXT: &str =
 
 pub(crate) const XOR: &str = "input a b\nx = XOR a b\noutput x\n";
 
+const C17: &str =
+    "# c17\nINPUT(1)\nINPUT(2)\nINPUT(3)\nINPUT(6)\nINPUT(7)\n\nOUTPUT(22)\nOUTPUT(23)\n\n10 = NAND(1, 3)\n11 = NAND(3, 6)\n16 = NAND(2, 11)\n19 = NAND(11, 7)\n22 = NAND(10, 16)\n23 = NAND(16, 19)\n";
+
+const C17_CIRCUIT: &str =
+    "input n0\ninput n1\ninput n2\ninput n3\ninput n4\nn5 = NAND n0 n2\nn6 = NAND n2 n3\nn7 = NAND n1 n6\nn8 = NAND n6 n4\nn9 = NAND n5 n7\nn10 = NAND n7 n8\noutput n9\noutput n10\n";
+
+const WIDE: &str = "INPUT(a)\nINPUT(b)\nINPUT(c)\nOUTPUT(y)\ny = NAND(t, b, c)\nt = not(a)\n";
+
+const WIDE_CIRCUIT: &str =
+    "input n0\ninput n1\ninput n2\nn3 = NOT n0\nn4 = AND n3 n1\nn5 = NAND n4 n2\noutput n5\n";
+
 /// Commands, options and their output.
-const ANSWERED: [Row; 26] = [
+pub(crate) const ANSWERED: [Row; 31] = [
     Row {
         line: "run",
         text: CATALYST,
         status: Status::Done,
-        out: "event 1 0 0 east 0 1\nevent 2 0 1 east 0 0\nsurface 100000000 2\nC A C\ncounts A:1 B:0 C:2\nend 100000000 2\n",
+        out: CATALYST_RUN,
         notes: "",
     },
     Row {
@@ -215,10 +233,45 @@ const ANSWERED: [Row; 26] = [
         out: "seed 0 events 0 last 0 A:1 B:2 C:0\nseed 1 events 0 last 0 A:1 B:2 C:0\ntotal seeds 2 ended 2 events 0\nA least 1 greatest 1 sum 2\nB least 2 greatest 2 sum 4\nC least 0 greatest 0 sum 0\n",
         notes: "",
     },
+    Row {
+        line: "bench",
+        text: C17,
+        status: Status::Done,
+        out: C17_CIRCUIT,
+        notes: "",
+    },
+    Row {
+        line: "value --inputs 00000",
+        text: C17_CIRCUIT,
+        status: Status::Done,
+        out: "n9 0\nn10 0\n",
+        notes: "",
+    },
+    Row {
+        line: "bench",
+        text: WIDE,
+        status: Status::Done,
+        out: WIDE_CIRCUIT,
+        notes: "",
+    },
+    Row {
+        line: "value --inputs 011",
+        text: WIDE_CIRCUIT,
+        status: Status::Done,
+        out: "n5 0\n",
+        notes: "",
+    },
+    Row {
+        line: "run --workers 2 --quota 1",
+        text: RENEWAL,
+        status: Status::Done,
+        out: RENEWAL_RUN,
+        notes: "",
+    },
 ];
 
 /// Refusals.
-const REFUSED: [Row; 13] = [
+pub(crate) const REFUSED: [Row; 15] = [
     Row {
         line: "",
         text: CATALYST,
@@ -310,253 +363,52 @@ const REFUSED: [Row; 13] = [
         out: "",
         notes: "words 2\n",
     },
+    Row {
+        line: "compact --inputs 1",
+        text: XOR,
+        status: Status::Faulty,
+        out: "",
+        notes: "circuit WrongInputs 2 1\n",
+    },
+    Row {
+        line: "bench",
+        text: "INPUT(a)\nx = DFF(a)\n",
+        status: Status::Faulty,
+        out: "",
+        notes: "bench Sequential line 2\n",
+    },
 ];
 
-/// Which calls of the source, the sink and the notes fail (0: none).
-#[derive(Clone, Copy)]
-struct Fails {
-    source: u64,
-    out: u64,
-    notes: u64,
-}
-
-const NONE: Fails = Fails {
-    source: 0,
-    out: 0,
-    notes: 0,
-};
-
-/// Runs words on bytes and sees that this is what is answered.
-fn answers<R: Threads + Sync + Abort>(
-    rt: &R,
-    alloc: Global,
-    row: &Row,
-    text: &[u8],
-    fails: Fails,
-) -> Result<(), Fail> {
-    let mut words = Vec::new(alloc);
-    for word in word_list(alloc, row.line)?.as_slice() {
-        words.push(String::from_str(alloc, *word)?)?;
-    }
-    let mut source = MemSource::new(alloc, text, 65_536, &[fails.source])?;
-    let mut out = MemSink::new(alloc, 1000, 7, &[fails.out])?;
-    let mut notes = MemSink::new(alloc, 1000, 4, &[fails.notes])?;
-    let mut kept = None;
-    let status = surface_main(
-        rt,
-        alloc,
-        words.as_slice(),
-        &mut kept,
-        &mut source,
-        &mut out,
-        &mut notes,
-        &OpenGate,
-    );
-    assert_eq!(rt; status, row.status);
-    assert_eq!(rt; out.bytes(), row.out.as_bytes());
-    assert_eq!(rt; notes.bytes(), row.notes.as_bytes());
-    Ok(())
-}
-
-#[test]
-fn words_and_texts_have_their_answers(rt: HostRuntime) -> Result<(), Fail> {
-    for row in &ANSWERED {
-        answers(&rt, rt.alloc(), row, row.text.as_bytes(), NONE)?;
-    }
-    for row in &REFUSED {
-        answers(&rt, rt.alloc(), row, row.text.as_bytes(), NONE)?;
-    }
-    Ok(())
-}
-
-/// What words on CATALYST, or on a text of many sharps, answer where calls of the outside fail.
-fn faulty(line: &'static str, status: Status, out: &'static str, notes: &'static str) -> Row {
-    Row {
-        line,
-        text: CATALYST,
-        status,
-        out,
-        notes,
-    }
-}
-
-#[test]
-fn faults_of_the_outside_have_their_answers(rt: HostRuntime) -> Result<(), Fail> {
-    let text = CATALYST.as_bytes();
-    let read = faulty("run", Status::ReadFault, "", "read fault\n");
-    answers(&rt, rt.alloc(), &read, text, Fails { source: 1, ..NONE })?;
-    let write = faulty("run", Status::WriteFault, "event 1 0 0 ea", "write fault\n");
-    answers(&rt, rt.alloc(), &write, text, Fails { out: 3, ..NONE })?;
-    let notes = faulty("run --seed", Status::Words, "", "word");
-    answers(&rt, rt.alloc(), &notes, text, Fails { notes: 2, ..NONE })
-}
-
-#[test]
-fn a_byte_above_64_mib_is_too_long(rt: HostRuntime) -> Result<(), Fail> {
-    let sharps = vec![in rt.alloc(); b'#'; 67_108_865]?;
-    let long = faulty("check", Status::Limit, "", "limit bytes 67108864\n");
-    answers(&rt, rt.alloc(), &long, &sharps, NONE)?;
-    let missing = faulty(
-        "check",
-        Status::Faulty,
-        "",
-        "manifest SectionMissing line 2\n",
-    );
-    answers(&rt, rt.alloc(), &missing, &sharps[1..], NONE)
-}
-
-/// A line that stands so many times between others.
-fn repeated(
-    alloc: Global,
-    head: &[u8],
-    line: &[u8],
-    count: usize,
-    tail: &[u8],
-) -> Result<Vec<u8>, Fail> {
-    let mut text = Vec::new(alloc);
-    text.extend_from_slice(head)?;
-    for _ in 0..count {
-        text.extend_from_slice(line)?;
-    }
-    text.extend_from_slice(tail)?;
-    Ok(text)
-}
-
-#[test]
-fn counts_above_their_limits_are_refused(rt: HostRuntime) -> Result<(), Fail> {
-    let alloc = rt.alloc();
-    let row = repeated(alloc, b"", b"A ", 1024, b"\n")?;
-    let open = b"!START_INIT_STATE\n".as_slice();
-    let close = b"!END_INIT_STATE\n".as_slice();
-    let most = faulty(
-        "check",
-        Status::Done,
-        "ok 1024 1024 square false 1 0 100000000\n",
-        "",
-    );
-    answers(
-        &rt,
-        alloc,
-        &most,
-        &repeated(alloc, open, &row, 1024, close)?,
-        NONE,
-    )?;
-    let sites = faulty(
-        "check",
-        Status::Limit,
-        "",
-        "manifest TooManySites line 1026\n",
-    );
-    answers(
-        &rt,
-        alloc,
-        &sites,
-        &repeated(alloc, open, &row, 1025, close)?,
-        NONE,
-    )?;
-    let rules = repeated(alloc, b"!START_TRANSITION_RULES\n", b"A -> A\n", 4097, b"")?;
-    let many = faulty(
-        "check",
-        Status::Limit,
-        "",
-        "manifest TooManyRules line 4098\n",
-    );
-    answers(&rt, alloc, &many, &rules, NONE)
-}
-
-/// A row of so many different names as a surface.
-fn different_names(alloc: Global, count: u32) -> Result<String, Fail> {
-    let mut text = String::from_str(alloc, "!START_INIT_STATE\n")?;
-    for i in 0..count {
-        text.push_str(format!(in alloc; "N{i} ")?.as_str())?;
-    }
-    text.push_str("\n!END_INIT_STATE\n")?;
-    Ok(text)
-}
-
-#[test]
-fn there_are_up_to_4096_species(rt: HostRuntime) -> Result<(), Fail> {
-    let alloc = rt.alloc();
-    let most = faulty(
-        "check",
-        Status::Done,
-        "ok 1 4096 square false 4096 0 100000000\n",
-        "",
-    );
-    answers(
-        &rt,
-        alloc,
-        &most,
-        different_names(alloc, 4096)?.as_bytes(),
-        NONE,
-    )?;
-    let many = faulty(
-        "check",
-        Status::Limit,
-        "",
-        "manifest TooManySpecies line 2\n",
-    );
-    answers(
-        &rt,
-        alloc,
-        &many,
-        different_names(alloc, 4097)?.as_bytes(),
-        NONE,
-    )
-}
-
-/// Runs words on a text and gives what stands in the sink, of up to 10,000,000 bytes.
-pub(crate) fn written<R: Threads + Sync + Abort>(
-    rt: &R,
-    alloc: Global,
-    line: &str,
-    text: &str,
-) -> Result<Vec<u8>, Fail> {
-    let mut words = Vec::new(alloc);
-    for word in word_list(alloc, line)?.as_slice() {
-        words.push(String::from_str(alloc, *word)?)?;
-    }
-    let mut source = MemSource::new(alloc, text.as_bytes(), 65_536, &[])?;
-    let mut out = MemSink::new(alloc, 10_000_000, 100_000, &[])?;
-    let mut notes = MemSink::new(alloc, 100, 100, &[])?;
-    let mut kept = None;
-    let status = surface_main(
-        rt,
-        alloc,
-        words.as_slice(),
-        &mut kept,
-        &mut source,
-        &mut out,
-        &mut notes,
-        &OpenGate,
-    );
-    assert_eq!(rt; status, Status::Done);
-    Ok(out.bytes().to_vec(alloc)?)
-}
-
-// One wait, from 1 to 44,361,420 ticks long; and 10,000 events, which fill several lists.
-#[test]
-fn runs_go_to_their_ends(rt: HostRuntime) -> Result<(), Fail> {
-    let decay =
-        "max_duration = 1000000000\n!START_TRANSITION_RULES\n(1) A -> B\n!END_TRANSITION_RULES\n!START_INIT_STATE\nA\n!END_INIT_STATE\n";
-    let text = written(&rt, rt.alloc(), "run", decay)?;
-    assert!(rt; text.as_slice().starts_with(b"event "));
-    assert!(rt;
-        text.as_slice().ends_with(
-            b" 0 0 self 0 0\nsurface 1000000000000000 1\nB\ncounts A:0 B:1\nend 1000000000000000 1\n"
-        )
-    );
-    let flips =
-        "max_duration = 0.00025\n!START_TRANSITION_RULES\n(1000000000) A -> B\n(1000000000) B -> A\n!END_TRANSITION_RULES\n!START_INIT_STATE\nA A A A A A A A\nA A A A A A A A\nA A A A A A A A\nA A A A A A A A\nA A A A A A A A\n!END_INIT_STATE\n";
-    let text = written(&rt, rt.alloc(), "run --samples 0 --limit 10000", flips)?;
-    assert!(rt;
-        text.as_slice()
-            .starts_with(b"event 1 0 0 self 0 0\nevent 1 0 1 self 0 0\n")
-    );
-    assert!(rt;
-        text.as_slice().ends_with(
-            b"event 250 4 6 self 1 0\nevent 250 4 7 self 1 0\nend 250 10000\n"
-        )
-    );
-    Ok(())
-}
+/// The manifest CATALYST cut short at each of its parts, and the message on it.
+pub(crate) const CUT_SHORT: [(&str, &str); 9] = [
+    ("", "manifest SectionMissing line 1\n"),
+    ("!START_TRANSITION_RULES\n", "manifest SectionOpen line 1\n"),
+    (
+        "!START_TRANSITION_RULES\n(1000000000",
+        "manifest BadRate line 2\n",
+    ),
+    (
+        "!START_TRANSITION_RULES\n(1000000000) A + B ->",
+        "manifest BadRule line 2\n",
+    ),
+    (
+        "!START_TRANSITION_RULES\n(1000000000) A + B -> A",
+        "manifest BadArity line 2\n",
+    ),
+    (
+        "!START_TRANSITION_RULES\n(1000000000) A + B -> A + C\n",
+        "manifest SectionOpen line 1\n",
+    ),
+    (
+        "!START_TRANSITION_RULES\n(1000000000) A + B -> A + C\n!END_TRANSITION_RULE",
+        "manifest UnknownSection line 3\n",
+    ),
+    (
+        "!START_TRANSITION_RULES\n(1000000000) A + B -> A + C\n!END_TRANSITION_RULES\n",
+        "manifest SectionMissing line 4\n",
+    ),
+    (
+        "!START_TRANSITION_RULES\n(1000000000) A + B -> A + C\n!END_TRANSITION_RULES\n!START_INIT_STATE\nB A B\n",
+        "manifest SectionOpen line 4\n",
+    ),
+];
