@@ -116,6 +116,7 @@ same_answer words (said.Value inputs) xs ys h = absurd (cc)
 same_answer words (said.Ensemble workers seeds first until limit) xs ys h = absurd (cc)
 same_answer words said.Bench xs ys h = absurd (cc)
 same_answer words (said.Compact inputs) xs ys h = absurd (cc)
+same_answer words (said.Watch workers seed until samples limit quota slots viewers frames) xs ys h = absurd (cc)
 same_answer words (said.Gen number) xs ys h = refl
 same_answer words (said.Stress workers number) xs ys h = refl
 

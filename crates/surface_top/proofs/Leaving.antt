@@ -123,6 +123,7 @@ same_run (said.Compact inputs) xs ys h = absurd (cc)
 same_run (said.Value inputs) xs ys h = absurd (cc)
 same_run (said.Ensemble workers seeds first until limit) xs ys h = absurd (cc)
 same_run said.Bench xs ys h = absurd (cc)
+same_run (said.Watch workers seed until samples limit quota slots viewers frames) xs ys h = absurd (cc)
 same_run (said.Gen number) xs ys h = refl
 same_run (said.Stress workers number) xs ys h = refl
 

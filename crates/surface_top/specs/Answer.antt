@@ -23,7 +23,7 @@ use Rattle.ensemble.specs.Outcomes.{outcomes}
 use Rattle.ensemble.specs.Texts.{ensemble_text}
 use Rattle.surface_words.specs.declared.commands.Program.{Program}
 use Rattle.surface_words.specs.declared.words.Words.{Words}
-use Rattle.surface_words.specs.declared.words.Words.TheVariants.{Check, Print, Run, Compile, Value, Gen, Stress, Ensemble, Bench, Compact}
+use Rattle.surface_words.specs.declared.words.Words.TheVariants.{Check, Print, Run, Compile, Value, Gen, Stress, Ensemble, Bench, Compact, Watch}
 use Rattle.surface_words.specs.FirstWrong.{first_wrong}
 use Rattle.surface_words.specs.Reading.{reading, reads}
 use Rattle.surface_top.specs.declared.answers.LayoutKind.{LayoutKind}
@@ -146,6 +146,7 @@ answer_within (Ensemble workers seeds first until limit) words bytes =
     by_manifest (λ m. ensemble_answer (settings_of workers seeds first until limit m) m) (manifest_of bytes)
 answer_within Bench words bytes = by_netlist bench_answer (netlist_in bytes)
 answer_within (Compact inputs) words bytes = by_circuit (compile_answer on.Compact (inputs_in inputs words)) (circuit_in bytes)
+answer_within (Watch workers seed until samples limit quota slots viewers frames) words bytes = by_manifest (λ m. run_answer (scene_of seed until samples limit m) m) (manifest_of bytes)
 
 -- a command that reads takes at most 67,108,864 bytes
 abbrev pub is_too_long : Words → List ℕ → Bool

@@ -12,7 +12,7 @@ use Rattle.manifest_read.specs.declared.fault.ManifestFault.{ManifestFault}
 use Rattle.manifest_read.specs.Manifest.{manifest_of}
 use Rattle.surface_words.specs.declared.commands.Program.{Program}
 use Rattle.surface_words.specs.declared.words.Words.{Words}
-use Rattle.surface_words.specs.declared.words.Words.TheVariants.{Run, Stress}
+use Rattle.surface_words.specs.declared.words.Words.TheVariants.{Run, Stress, Watch}
 use Rattle.workload.specs.Generated.{generated_manifest}
 use Rattle.surface_words.specs.Reading.{reading}
 use Rattle.surface_top.specs.declared.call.ManifestJob.{ManifestJob}
@@ -54,6 +54,8 @@ stress_options workers = record { workers = workers; quota = 256; slots = 256; s
 
 abbrev pub run_within : Words → List ℕ → Option Asked
 run_within (Run workers seed until samples limit quota slots report) bytes =
+    run_read (run_by (job.Run (record { workers = workers; quota = quota; slots = slots; seed = seed; until = until; samples = samples; limit = limit }))) (manifest_of bytes)
+run_within (Watch workers seed until samples limit quota slots viewers frames) bytes =
     run_read (run_by (job.Run (record { workers = workers; quota = quota; slots = slots; seed = seed; until = until; samples = samples; limit = limit }))) (manifest_of bytes)
 run_within (Stress workers number) bytes = Some (record { manifest = generated_manifest number; options = stress_options workers })
 run_within command bytes = None

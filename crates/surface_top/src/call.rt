@@ -209,6 +209,19 @@ fn answer_text<R: Threads + Sync, O: Sink, G: Gate>(
             let job = run_job(workers, seed, until, samples, limit, quota, slots);
             answer_manifest(rt, gate, alloc, text, job, kept, out)
         }
+        Words::Watch {
+            workers,
+            seed,
+            until,
+            samples,
+            limit,
+            quota,
+            slots,
+            ..
+        } => {
+            let job = run_job(workers, seed, until, samples, limit, quota, slots);
+            answer_manifest(rt, gate, alloc, text, job, kept, out)
+        }
         Words::Ensemble {
             workers,
             seeds,

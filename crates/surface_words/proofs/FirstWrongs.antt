@@ -7,7 +7,7 @@ use Rattle.surface_words.specs.declared.commands.Program.{Program}
 use Rattle.surface_words.specs.declared.commands.Program.TheVariants.{Surface, Watch}
 use Rattle.surface_words.specs.declared.commands.Command.{Command}
 use Rattle.surface_words.specs.declared.options.OptionName.{OptionName}
-use Rattle.surface_words.specs.declared.options.OptionName.TheVariants.{Workers, Seed, Until, Samples, Limit, Inputs, Number, Seeds, First, Quota, Slots, Report}
+use Rattle.surface_words.specs.declared.options.OptionName.TheVariants.{Workers, Seed, Until, Samples, Limit, Inputs, Number, Seeds, First, Quota, Slots, Report, Viewers, Frames}
 use Rattle.surface_words.specs.Commands.{command_of, is_allowed}
 use Rattle.surface_words.specs.Accepted.{is_accepted_after, is_accepted}
 use Rattle.surface_words.specs.FirstWrong.{CanGoOn, IsDeadEnd, IsFirstWrong, next_option, wrong_from, first_wrong}
@@ -48,6 +48,8 @@ example_allowed First = refl
 example_allowed Quota = refl
 example_allowed Slots = refl
 example_allowed Report = refl
+example_allowed Viewers = refl
+example_allowed Frames = refl
 
 none_fits : (command : Command) (before : List OptionName) (name : List ℕ) (words : List (List ℕ)) → next_option command before name ≡ None → fits command before (name ∷ words) ≡ false
 none_fits command before name [] e = refl
@@ -138,13 +140,9 @@ wrong_at command (name ∷ value ∷ words) before at index h =
     by None e behind h = record { steps = 0; index_is = (let same : at ≡ index = cc in omega arith); wrong = wrong_name command before name (value ∷ words) e }
     by (Some option) e behind h = tested option e (behind option) (is_allowed option value) refl h
 
-none_accepted : (words : List (List ℕ)) → is_accepted Watch words ≡ false
-none_accepted [] = refl
-none_accepted (word ∷ words) = refl
-
 no_words : (program : Program) → IsFirstWrong program [] 0
 no_words Surface = inr (record { open_ended = λ j. (codes "check" ∷ [], refl); unaccepted = refl; at_end = refl })
-no_words Watch = inl (record { dead = λ more. none_accepted more; least = λ j h. absurd (omega arith) })
+no_words Watch = inr (record { open_ended = λ j. (codes "watch" ∷ [], refl); unaccepted = refl; at_end = refl })
 
 -- where the command is wrong
 wrong_command : (program : Program) (word : List ℕ) (words : List (List ℕ)) → command_of program word ≡ None → IsFirstWrong program (word ∷ words) 0

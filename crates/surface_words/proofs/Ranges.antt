@@ -8,13 +8,13 @@ use Rattle.surf_text.specs.declared.numbers.Dec.{Dec}
 use Rattle.rates.specs.Durations.{ticks_of, duration_of}
 use Rattle.surface_words.specs.declared.commands.Program.{Program}
 use Rattle.surface_words.specs.declared.commands.Command.{Command}
-use Rattle.surface_words.specs.declared.commands.Command.TheVariants.{Check, Print, Run, Compile, Value, Gen, Stress, Ensemble, Bench, Compact}
+use Rattle.surface_words.specs.declared.commands.Command.TheVariants.{Check, Print, Run, Compile, Value, Gen, Stress, Ensemble, Bench, Compact, Watch}
 use Rattle.surface_words.specs.declared.options.OptionName.{OptionName}
-use Rattle.surface_words.specs.declared.options.OptionName.TheVariants.{Workers, Until, Samples, Limit, Inputs, Number, Seeds, Quota, Slots}
+use Rattle.surface_words.specs.declared.options.OptionName.TheVariants.{Workers, Until, Samples, Limit, Inputs, Number, Seeds, Quota, Slots, Viewers, Frames}
 use Rattle.surface_words.specs.declared.words.Words.{Words}
 use Rattle.surface_words.specs.Commands.{command_of, option_of, same_option, whole_in, number_of}
 use Rattle.surface_words.specs.Accepted.{Pair, pairs_of, with_pair, is_accepted}
-use Rattle.surface_words.specs.Reading.{value_given, number_given, index_given, words_of, spelled_words, reading, IsInRange}
+use Rattle.surface_words.specs.Reading.{value_given, number_given, index_given, words_of, spelled_words, reading, IsInRange, IsRunInRange}
 
 abbrev IsWithin : ℕ → ℕ → ℕ → Type 0
 IsWithin least most n = (least ≤ n) × (n ≤ most)
@@ -102,10 +102,8 @@ workers_within pairs = with_default (IsWithin 1 64) (number_given Workers pairs)
 limit_within : (pairs : List Pair) → IsWithin 0 10000000 (unwrap_or (number_given Limit pairs) 1000000)
 limit_within pairs = with_default (IsWithin 0 10000000) (number_given Limit pairs) 1000000 (given_within Limit (IsWithin 0 10000000) (whole_within 0 10000000) pairs) (lit≤ tt, lit≤ tt)
 
-words_within : (command : Command) (pairs : List Pair) (count : ℕ) → count ≡ 1 + 2 * length pairs → IsInRange count (words_of command pairs)
-words_within Check pairs count e = tt
-words_within Print pairs count e = tt
-words_within Run pairs count e =
+run_within : (pairs : List Pair) → IsRunInRange (unwrap_or (number_given Workers pairs) 1) (number_given Until pairs) (unwrap_or (number_given Samples pairs) 1) (unwrap_or (number_given Limit pairs) 1000000) (unwrap_or (number_given Quota pairs) 256) (unwrap_or (number_given Slots pairs) 256)
+run_within pairs =
     let workers = workers_within pairs in
     let samples = with_default (IsWithin 0 10000) (number_given Samples pairs) 1 (given_within Samples (IsWithin 0 10000) (whole_within 0 10000) pairs) (lit≤ tt, lit≤ tt) in
     let limit = limit_within pairs in
@@ -122,6 +120,11 @@ words_within Run pairs count e =
       slots_at_least = slots.0;
       slots_at_most = slots.1;
     }
+
+words_within : (command : Command) (pairs : List Pair) (count : ℕ) → count ≡ 1 + 2 * length pairs → IsInRange count (words_of command pairs)
+words_within Check pairs count e = tt
+words_within Print pairs count e = tt
+words_within Run pairs count e = run_within pairs
 words_within Compile pairs count e = inputs_within (index_given Inputs 2 pairs) pairs count e (index_below Inputs pairs 2)
 words_within Value pairs count e = inputs_within (index_given Inputs 2 pairs) pairs count e (index_below Inputs pairs 2)
 words_within Gen pairs count e = number_within pairs
@@ -142,6 +145,16 @@ words_within Ensemble pairs count e =
     }
 words_within Bench pairs count e = tt
 words_within Compact pairs count e = inputs_within (index_given Inputs 2 pairs) pairs count e (index_below Inputs pairs 2)
+words_within Watch pairs count e =
+    let viewers = with_default (IsWithin 1 16) (number_given Viewers pairs) 1 (given_within Viewers (IsWithin 1 16) (whole_within 1 16) pairs) (lit≤ tt, lit≤ tt) in
+    let frames = with_default (IsWithin 1 1000) (number_given Frames pairs) 10 (given_within Frames (IsWithin 1 1000) (whole_within 1 1000) pairs) (lit≤ tt, lit≤ tt) in
+    record {
+      run = run_within pairs;
+      viewers_at_least = viewers.0;
+      viewers_at_most = viewers.1;
+      frames_at_least = frames.0;
+      frames_at_most = frames.1;
+    }
 
 pub reading_within : (program : Program) (words : List (List ℕ)) (w : Words) → reading program words ≡ Some w → IsInRange (length words) w
 reading_within program words w h = by (is_accepted program words) h

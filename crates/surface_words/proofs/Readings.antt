@@ -3,7 +3,7 @@ use Rattle.std.proofs.Common.{◌≡◌, ℕ, List, ◌∷◌, Option, Some, Non
 use Rattle.std.specs.Option.{option_map, option_and_then, is_none}
 use Rattle.surface_words.specs.declared.commands.Program.{Program}
 use Rattle.surface_words.specs.declared.commands.Command.{Command}
-use Rattle.surface_words.specs.declared.commands.Command.TheVariants.{Check, Print, Run, Compile, Value, Gen, Stress, Ensemble, Bench, Compact}
+use Rattle.surface_words.specs.declared.commands.Command.TheVariants.{Check, Print, Run, Compile, Value, Gen, Stress, Ensemble, Bench, Compact, Watch}
 use Rattle.surface_words.specs.declared.given.Given.{Given}
 use Rattle.surface_words.specs.Commands.{command_of}
 use Rattle.surface_words.specs.Accepted.{Pair, pairs_of}
@@ -23,6 +23,7 @@ same_words Stress pairs = refl
 same_words Ensemble pairs = refl
 same_words Bench pairs = refl
 same_words Compact pairs = refl
+same_words Watch pairs = refl
 
 by_given : (command : Command) (given : Given) (pairs : Option (List Pair)) → option_map (given_by 2) pairs ≡ Some given → option_map (words_of command) pairs ≡ Some (words_by command given)
 by_given command given None h = absurd (cc)

@@ -77,7 +77,7 @@ or_none (Some x) = refl
 
 merged_none : (given : Given) (at : ℕ) → merged given at [] ≡ given
 merged_none given at =
-    rw (or_none given.workers, or_none given.seed, or_none given.until, or_none given.samples, or_none given.limit, or_none given.inputs, or_none given.number, or_none given.seeds, or_none given.first, or_none given.quota, or_none given.slots, or_none given.report) refl
+    rw (or_none given.workers, or_none given.seed, or_none given.until, or_none given.samples, or_none given.limit, or_none given.inputs, or_none given.number, or_none given.seeds, or_none given.first, or_none given.quota, or_none given.slots, or_none given.report, or_none given.viewers, or_none given.frames) refl
 
 -- pairs after one more give the same as the pair with them
 merged_pairs : (given more : Given) (option : OptionName) (value : List ℕ) (at : ℕ) → IsStep given option value (at + 1) more → has given option ≡ false → (pairs : Option (List Pair)) → option_map (merged given (at + 1)) (with_pair option value pairs) ≡ option_map (merged more (at + 2 + 1)) pairs

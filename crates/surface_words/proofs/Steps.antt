@@ -4,7 +4,7 @@ use Rattle.std.specs.List.{list_all}
 use Rattle.std.specs.Option.{option_map, option_or}
 use Rattle.surface_words.specs.declared.given.Given.{Given}
 use Rattle.surface_words.specs.declared.options.OptionName.{OptionName}
-use Rattle.surface_words.specs.declared.options.OptionName.TheVariants.{Workers, Seed, Until, Samples, Limit, Inputs, Number, Seeds, First, Quota, Slots, Report}
+use Rattle.surface_words.specs.declared.options.OptionName.TheVariants.{Workers, Seed, Until, Samples, Limit, Inputs, Number, Seeds, First, Quota, Slots, Report, Viewers, Frames}
 use Rattle.surface_words.specs.Commands.{same_option, number_of, choice_of, is_bit, is_allowed}
 use Rattle.surface_words.specs.Accepted.{Pair}
 use Rattle.surface_words.specs.Reading.{number_given, choice_given, index_given}
@@ -25,6 +25,8 @@ merged given at pairs = record {
   quota = option_or given.quota (number_given Quota pairs);
   slots = option_or given.slots (number_given Slots pairs);
   report = option_or given.report (choice_given Report pairs);
+  viewers = option_or given.viewers (number_given Viewers pairs);
+  frames = option_or given.frames (number_given Frames pairs);
 }
 
 abbrev HasMore : Given → OptionName → Given → OptionName → Type 0
@@ -110,6 +112,18 @@ step_slots old value index n e = record {
   same_rest = λ h pairs. let none = none_where old.slots h in rw (none, e) refl;
 }
 
+step_viewers : (old : Given) (value : List ℕ) (index n : ℕ) → number_of Viewers value ≡ Some n → IsStep old Viewers value index (record old { viewers = Some n })
+step_viewers old value index n e = record {
+  has_more = λ other. elim other as (HasMore old Viewers (record old { viewers = Some n })) [ Viewers ↦ refl | _ ↦ refl ];
+  same_rest = λ h pairs. let none = none_where old.viewers h in rw (none, e) refl;
+}
+
+step_frames : (old : Given) (value : List ℕ) (index n : ℕ) → number_of Frames value ≡ Some n → IsStep old Frames value index (record old { frames = Some n })
+step_frames old value index n e = record {
+  has_more = λ other. elim other as (HasMore old Frames (record old { frames = Some n })) [ Frames ↦ refl | _ ↦ refl ];
+  same_rest = λ h pairs. let none = none_where old.frames h in rw (none, e) refl;
+}
+
 step_report : (old : Given) (value : List ℕ) (index : ℕ) (b : Bool) → choice_of value ≡ Some b → IsStep old Report value index (record old { report = Some b })
 step_report old value index b e = record {
   has_more = λ other. elim other as (HasMore old Report (record old { report = Some b })) [ Report ↦ refl | _ ↦ refl ];
@@ -133,6 +147,8 @@ step_is old First value index new h = by_number (λ n. record old { first = Some
 step_is old Quota value index new h = by_number (λ n. record old { quota = Some n }) (number_of Quota value) new (IsStep old Quota value index) (step_quota old value index) h
 step_is old Slots value index new h = by_number (λ n. record old { slots = Some n }) (number_of Slots value) new (IsStep old Slots value index) (step_slots old value index) h
 step_is old Report value index new h = by_number (λ b. record old { report = Some b }) (choice_of value) new (IsStep old Report value index) (step_report old value index) h
+step_is old Viewers value index new h = by_number (λ n. record old { viewers = Some n }) (number_of Viewers value) new (IsStep old Viewers value index) (step_viewers old value index) h
+step_is old Frames value index new h = by_number (λ n. record old { frames = Some n }) (number_of Frames value) new (IsStep old Frames value index) (step_frames old value index) h
 
 is_some_map : {T : Type 0} (f : T → Given) (number : Option T) → is_some (option_map f number) ≡ is_some number
 is_some_map f None = refl
@@ -156,3 +172,5 @@ allowed_is old First value index = is_some_map (λ n. record old { first = Some 
 allowed_is old Quota value index = is_some_map (λ n. record old { quota = Some n }) (number_of Quota value)
 allowed_is old Slots value index = is_some_map (λ n. record old { slots = Some n }) (number_of Slots value)
 allowed_is old Report value index = is_some_map (λ b. record old { report = Some b }) (choice_of value)
+allowed_is old Viewers value index = is_some_map (λ n. record old { viewers = Some n }) (number_of Viewers value)
+allowed_is old Frames value index = is_some_map (λ n. record old { frames = Some n }) (number_of Frames value)

@@ -8,13 +8,13 @@ use Rattle.rates.specs.Durations.{duration_of}
 use Rattle.surface_words.specs.declared.commands.Program.{Program}
 use Rattle.surface_words.specs.declared.commands.Program.TheVariants as program
 use Rattle.surface_words.specs.declared.commands.Command.{Command}
-use Rattle.surface_words.specs.declared.commands.Command.TheVariants.{Check, Print, Run, Compile, Value, Gen, Stress, Ensemble, Bench, Compact}
+use Rattle.surface_words.specs.declared.commands.Command.TheVariants.{Check, Print, Run, Compile, Value, Gen, Stress, Ensemble, Bench, Compact, Watch}
 use Rattle.surface_words.specs.declared.options.OptionName.{OptionName}
-use Rattle.surface_words.specs.declared.options.OptionName.TheVariants.{Workers, Seed, Until, Samples, Limit, Inputs, Number, Seeds, First, Quota, Slots, Report}
+use Rattle.surface_words.specs.declared.options.OptionName.TheVariants.{Workers, Seed, Until, Samples, Limit, Inputs, Number, Seeds, First, Quota, Slots, Report, Viewers, Frames}
 
 abbrev pub commands_of : Program → List Command
 commands_of program.Surface = Check ∷ Print ∷ Run ∷ Compile ∷ Value ∷ Gen ∷ Stress ∷ Ensemble ∷ Bench ∷ Compact ∷ []
-commands_of program.Watch = []
+commands_of program.Watch = Watch ∷ []
 
 abbrev pub command_text : Command → List ℕ
 command_text Check = codes "check"
@@ -27,6 +27,7 @@ command_text Stress = codes "stress"
 command_text Ensemble = codes "ensemble"
 command_text Bench = codes "bench"
 command_text Compact = codes "compact"
+command_text Watch = codes "watch"
 
 -- the command of a program that a word names
 abbrev pub command_of : Program → List ℕ → Option Command
@@ -45,9 +46,11 @@ option_text First = codes "--first"
 option_text Quota = codes "--quota"
 option_text Slots = codes "--slots"
 option_text Report = codes "--report"
+option_text Viewers = codes "--viewers"
+option_text Frames = codes "--frames"
 
 abbrev pub all_options : List OptionName
-all_options = Workers ∷ Seed ∷ Until ∷ Samples ∷ Limit ∷ Inputs ∷ Number ∷ Seeds ∷ First ∷ Quota ∷ Slots ∷ Report ∷ []
+all_options = Workers ∷ Seed ∷ Until ∷ Samples ∷ Limit ∷ Inputs ∷ Number ∷ Seeds ∷ First ∷ Quota ∷ Slots ∷ Report ∷ Viewers ∷ Frames ∷ []
 
 -- the option that a word names
 abbrev pub option_of : List ℕ → Option OptionName
@@ -70,6 +73,7 @@ options_of Stress = Workers ∷ Number ∷ []
 options_of Ensemble = Workers ∷ Until ∷ Limit ∷ Seeds ∷ First ∷ []
 options_of Bench = []
 options_of Compact = Inputs ∷ []
+options_of Watch = Workers ∷ Seed ∷ Until ∷ Samples ∷ Limit ∷ Quota ∷ Slots ∷ Viewers ∷ Frames ∷ []
 
 abbrev pub has_option : Command → OptionName → Bool
 has_option command option = is_among option (options_of command)
@@ -92,6 +96,8 @@ number_of First value = u64_of value
 number_of Quota value = whole_in 1 65536 value
 number_of Slots value = whole_in 1 65536 value
 number_of Report value = None
+number_of Viewers value = whole_in 1 16 value
+number_of Frames value = whole_in 1 1000 value
 
 -- 0 or 1
 abbrev pub is_bit : ℕ → Bool

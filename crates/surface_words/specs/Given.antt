@@ -3,10 +3,10 @@ use Rattle.std.specs.Prelude.{ℕ, Bool, false, not, ◌&&◌, List, Option, Som
 use Rattle.std.specs.List.{list_all}
 use Rattle.std.specs.Option.{option_map, option_and_then}
 use Rattle.surface_words.specs.declared.commands.Command.{Command}
-use Rattle.surface_words.specs.declared.commands.Command.TheVariants.{Check, Print, Run, Compile, Value, Gen, Stress, Ensemble, Bench, Compact}
+use Rattle.surface_words.specs.declared.commands.Command.TheVariants.{Check, Print, Run, Compile, Value, Gen, Stress, Ensemble, Bench, Compact, Watch}
 use Rattle.surface_words.specs.declared.given.Given.{Given}
 use Rattle.surface_words.specs.declared.options.OptionName.{OptionName}
-use Rattle.surface_words.specs.declared.options.OptionName.TheVariants.{Workers, Seed, Until, Samples, Limit, Inputs, Number, Seeds, First, Quota, Slots, Report}
+use Rattle.surface_words.specs.declared.options.OptionName.TheVariants.{Workers, Seed, Until, Samples, Limit, Inputs, Number, Seeds, First, Quota, Slots, Report, Viewers, Frames}
 use Rattle.surface_words.specs.declared.words.Words.{Words}
 use Rattle.surface_words.specs.declared.words.Words.TheVariants as variant
 use Rattle.surface_words.specs.Commands.{option_of, has_option, number_of, choice_of, is_bit}
@@ -14,7 +14,7 @@ use Rattle.surface_words.specs.Accepted.{Pair}
 use Rattle.surface_words.specs.Reading.{number_given, choice_given, index_given}
 
 abbrev pub nothing : Given
-nothing = record { workers = None; seed = None; until = None; samples = None; limit = None; inputs = None; number = None; seeds = None; first = None; quota = None; slots = None; report = None }
+nothing = record { workers = None; seed = None; until = None; samples = None; limit = None; inputs = None; number = None; seeds = None; first = None; quota = None; slots = None; report = None; viewers = None; frames = None }
 
 abbrev pub has : Given → OptionName → Bool
 has given Workers = is_some given.workers
@@ -29,6 +29,8 @@ has given First = is_some given.first
 has given Quota = is_some given.quota
 has given Slots = is_some given.slots
 has given Report = is_some given.report
+has given Viewers = is_some given.viewers
+has given Frames = is_some given.frames
 
 -- the option that a word names, if the command has it and it has no value yet
 abbrev pub free_option : Command → Given → List ℕ → Option OptionName
@@ -49,6 +51,8 @@ with_value given First value index = option_map (λ n. record given { first = So
 with_value given Quota value index = option_map (λ n. record given { quota = Some n }) (number_of Quota value)
 with_value given Slots value index = option_map (λ n. record given { slots = Some n }) (number_of Slots value)
 with_value given Report value index = option_map (λ b. record given { report = Some b }) (choice_of value)
+with_value given Viewers value index = option_map (λ n. record given { viewers = Some n }) (number_of Viewers value)
+with_value given Frames value index = option_map (λ n. record given { frames = Some n }) (number_of Frames value)
 
 -- what the command says with these values
 abbrev pub words_by : Command → Given → Words
@@ -62,6 +66,7 @@ words_by Stress given = variant.Stress (unwrap_or given.workers 1) (unwrap_or gi
 words_by Ensemble given = variant.Ensemble (unwrap_or given.workers 1) (unwrap_or given.seeds 10) (unwrap_or given.first 0) given.until (unwrap_or given.limit 1000000)
 words_by Bench given = variant.Bench
 words_by Compact given = variant.Compact given.inputs
+words_by Watch given = variant.Watch (unwrap_or given.workers 1) given.seed given.until (unwrap_or given.samples 1) (unwrap_or given.limit 1000000) (unwrap_or given.quota 256) (unwrap_or given.slots 256) (unwrap_or given.viewers 1) (unwrap_or given.frames 10)
 
 -- the values that pairs give, where the first pair's value has the index `at`
 abbrev pub given_by : ℕ → List Pair → Given
@@ -78,4 +83,6 @@ given_by at pairs = record {
   quota = number_given Quota pairs;
   slots = number_given Slots pairs;
   report = choice_given Report pairs;
+  viewers = number_given Viewers pairs;
+  frames = number_given Frames pairs;
 }

@@ -3,9 +3,9 @@ use Rattle.std.specs.Prelude.{ℕ, Bool, true, false, ◌+◌, ◌^◌, ◌<◌,
 use Rattle.std.specs.Option.{option_map, option_and_then}
 use Rattle.surface_words.specs.declared.commands.Program.{Program}
 use Rattle.surface_words.specs.declared.commands.Command.{Command}
-use Rattle.surface_words.specs.declared.commands.Command.TheVariants.{Check, Print, Run, Compile, Value, Gen, Stress, Ensemble, Bench, Compact}
+use Rattle.surface_words.specs.declared.commands.Command.TheVariants.{Check, Print, Run, Compile, Value, Gen, Stress, Ensemble, Bench, Compact, Watch}
 use Rattle.surface_words.specs.declared.options.OptionName.{OptionName}
-use Rattle.surface_words.specs.declared.options.OptionName.TheVariants.{Workers, Seed, Until, Samples, Limit, Inputs, Number, Seeds, First, Quota, Slots, Report}
+use Rattle.surface_words.specs.declared.options.OptionName.TheVariants.{Workers, Seed, Until, Samples, Limit, Inputs, Number, Seeds, First, Quota, Slots, Report, Viewers, Frames}
 use Rattle.surface_words.specs.declared.words.Words.{Words}
 use Rattle.surface_words.specs.declared.words.Words.TheVariants as variant
 use Rattle.surface_words.specs.Commands.{command_of, same_option, number_of, choice_of}
@@ -54,6 +54,16 @@ words_of Ensemble pairs = variant.Ensemble
     (unwrap_or (number_given Limit pairs) 1000000)
 words_of Bench pairs = variant.Bench
 words_of Compact pairs = variant.Compact (index_given Inputs 2 pairs)
+words_of Watch pairs = variant.Watch
+    (unwrap_or (number_given Workers pairs) 1)
+    (number_given Seed pairs)
+    (number_given Until pairs)
+    (unwrap_or (number_given Samples pairs) 1)
+    (unwrap_or (number_given Limit pairs) 1000000)
+    (unwrap_or (number_given Quota pairs) 256)
+    (unwrap_or (number_given Slots pairs) 256)
+    (unwrap_or (number_given Viewers pairs) 1)
+    (unwrap_or (number_given Frames pairs) 10)
 
 -- what a list of words spells, whether it is accepted or not
 abbrev pub spelled_words : Program → List (List ℕ) → Option Words
@@ -76,6 +86,7 @@ reads (variant.Stress workers number) = false
 reads (variant.Ensemble workers seeds first until limit) = true
 reads variant.Bench = true
 reads (variant.Compact inputs) = true
+reads (variant.Watch workers seed until samples limit quota slots viewers frames) = true
 
 -- the bounds of a run
 pub record IsRunInRange (workers : ℕ) (until : Option ℕ) (samples limit quota slots : ℕ) : Type 0 where
@@ -104,6 +115,14 @@ pub record IsEnsembleInRange (workers seeds : ℕ) (until : Option ℕ) (limit :
   pub until_at_most : IfSome until (λ ticks. ticks ≤ 10 ^ 15)
   pub limit_at_most : limit ≤ 10000000
 
+-- the bounds of a run with viewers
+pub record IsWatchInRange (workers : ℕ) (until : Option ℕ) (samples limit quota slots viewers frames : ℕ) : Type 0 where
+  pub run : IsRunInRange workers until samples limit quota slots
+  pub viewers_at_least : 1 ≤ viewers
+  pub viewers_at_most : viewers ≤ 16
+  pub frames_at_least : 1 ≤ frames
+  pub frames_at_most : frames ≤ 1000
+
 -- the bounds of what a list of so many words says
 abbrev pub IsInRange : ℕ → Words → Type 0
 IsInRange count variant.Check = Unit {0}
@@ -116,3 +135,4 @@ IsInRange count (variant.Stress workers number) = IsStressInRange workers number
 IsInRange count (variant.Ensemble workers seeds first until limit) = IsEnsembleInRange workers seeds until limit
 IsInRange count variant.Bench = Unit {0}
 IsInRange count (variant.Compact inputs) = IfSome inputs (λ index. index < count)
+IsInRange count (variant.Watch workers seed until samples limit quota slots viewers frames) = IsWatchInRange workers until samples limit quota slots viewers frames

@@ -24,6 +24,7 @@ pub(crate) enum Command {
     Ensemble,
     Bench,
     Compact,
+    Watch,
 }
 
 impl Command {
@@ -45,7 +46,10 @@ impl Command {
                 "compact" => Some(Command::Compact),
                 _ => None,
             },
-            Program::Watch => None,
+            Program::Watch => match word {
+                "watch" => Some(Command::Watch),
+                _ => None,
+            },
         }
     }
 
@@ -63,8 +67,12 @@ impl Command {
                 | OptionName::Quota
                 | OptionName::Slots
                 | OptionName::Report => true,
-                OptionName::Inputs | OptionName::Number | OptionName::Seeds | OptionName::First =>
-                    false,
+                OptionName::Inputs
+                | OptionName::Number
+                | OptionName::Seeds
+                | OptionName::First
+                | OptionName::Viewers
+                | OptionName::Frames => false,
             },
             Command::Compile | Command::Value | Command::Compact => {
                 matches!(option, OptionName::Inputs)
@@ -83,6 +91,24 @@ impl Command {
                 | OptionName::Number
                 | OptionName::Quota
                 | OptionName::Slots
+                | OptionName::Report
+                | OptionName::Viewers
+                | OptionName::Frames => false,
+            },
+            Command::Watch => match option {
+                OptionName::Workers
+                | OptionName::Seed
+                | OptionName::Until
+                | OptionName::Samples
+                | OptionName::Limit
+                | OptionName::Quota
+                | OptionName::Slots
+                | OptionName::Viewers
+                | OptionName::Frames => true,
+                OptionName::Inputs
+                | OptionName::Number
+                | OptionName::Seeds
+                | OptionName::First
                 | OptionName::Report => false,
             },
         }

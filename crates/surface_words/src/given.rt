@@ -28,6 +28,8 @@ pub(crate) struct Given {
     pub(crate) quota: Option<u64>,
     pub(crate) slots: Option<u64>,
     pub(crate) report: Option<bool>,
+    pub(crate) viewers: Option<u64>,
+    pub(crate) frames: Option<u64>,
 }
 
 impl Given {
@@ -47,6 +49,8 @@ impl Given {
             quota: None,
             slots: None,
             report: None,
+            viewers: None,
+            frames: None,
         }
     }
 
@@ -66,6 +70,8 @@ impl Given {
             OptionName::Quota => self.quota.is_some(),
             OptionName::Slots => self.slots.is_some(),
             OptionName::Report => self.report.is_some(),
+            OptionName::Viewers => self.viewers.is_some(),
+            OptionName::Frames => self.frames.is_some(),
         }
     }
 
@@ -93,6 +99,8 @@ impl Given {
             OptionName::Quota => given.quota = Some(whole(bytes, 1, 65_536)?),
             OptionName::Slots => given.slots = Some(whole(bytes, 1, 65_536)?),
             OptionName::Report => given.report = Some(choice(value)?),
+            OptionName::Viewers => given.viewers = Some(whole(bytes, 1, 16)?),
+            OptionName::Frames => given.frames = Some(whole(bytes, 1, 1_000)?),
         }
         Some(given)
     }

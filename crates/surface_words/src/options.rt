@@ -20,6 +20,8 @@ pub(crate) enum OptionName {
     Quota,
     Slots,
     Report,
+    Viewers,
+    Frames,
 }
 
 impl OptionName {
@@ -40,6 +42,8 @@ impl OptionName {
             "--quota" => Some(OptionName::Quota),
             "--slots" => Some(OptionName::Slots),
             "--report" => Some(OptionName::Report),
+            "--viewers" => Some(OptionName::Viewers),
+            "--frames" => Some(OptionName::Frames),
             _ => None,
         }
     }

@@ -25,6 +25,20 @@ fn run(seed: Option<u64>, until: Option<u64>, samples: u64, limit: u64) -> Words
     }
 }
 
+fn watch(workers: u64, quota: u64, viewers: u64, frames: u64) -> Words {
+    Words::Watch {
+        workers,
+        seed: None,
+        until: None,
+        samples: 1,
+        limit: 1_000_000,
+        quota,
+        slots: 256,
+        viewers,
+        frames,
+    }
+}
+
 fn ensemble(seeds: u64, first: u64, until: Option<u64>, limit: u64) -> Words {
     Words::Ensemble {
         workers: 1,
@@ -173,9 +187,33 @@ fn the_first_wrong_word_is_named(rt: HostRuntime) -> Result<(), Fail> {
 }
 
 #[test]
-fn watch_has_no_commands(rt: HostRuntime) -> Result<(), Fail> {
-    for line in ["", "watch", "check", "run --workers 0"] {
-        assert_eq!(rt; read(rt.alloc(), line, Program::Watch)?, Err(0));
+fn words_of_watch(rt: HostRuntime) -> Result<(), Fail> {
+    for (line, words) in [
+        ("watch", watch(1, 256, 1, 10)),
+        (
+            "watch --frames 1000 --viewers 16 --workers 64 --quota 65536",
+            watch(64, 65_536, 16, 1_000),
+        ),
+    ] {
+        assert_eq!(rt; read(rt.alloc(), line, Program::Watch)?, Ok(words));
     }
+    for (line, index) in [
+        ("", 0),
+        ("check", 0),
+        ("run --workers 0", 0),
+        ("watch --report yes", 1),
+        ("watch --viewers 0", 2),
+        ("watch --viewers 17", 2),
+        ("watch --frames 0", 2),
+        ("watch --frames 1001", 2),
+        ("watch --frames 1 --viewers", 4),
+    ] {
+        assert_eq!(rt; read(rt.alloc(), line, Program::Watch)?, Err(index));
+    }
+    assert_eq!(rt;
+        read(rt.alloc(), "run --viewers 1", Program::Surface)?,
+        Err(1)
+    );
+    assert_eq!(rt; read(rt.alloc(), "watch", Program::Surface)?, Err(0));
     Ok(())
 }

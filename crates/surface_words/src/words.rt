@@ -67,6 +67,20 @@ pub enum Words {
         /// As for `Compile`.
         inputs: Option<usize>,
     },
+    Watch {
+        /// As for `Run`, here and up to `slots`.
+        workers: u64,
+        seed: Option<u64>,
+        until: Option<u64>,
+        samples: u64,
+        limit: u64,
+        quota: u64,
+        slots: u64,
+        /// From 1 to 16.
+        viewers: u64,
+        /// How many samples each viewer takes, from 1 to 1,000.
+        frames: u64,
+    },
 }
 
 impl Words {
@@ -111,6 +125,17 @@ impl Words {
             Command::Compact => Words::Compact {
                 inputs: given.inputs,
             },
+            Command::Watch => Words::Watch {
+                workers: given.workers.unwrap_or(1),
+                seed: given.seed,
+                until: given.until,
+                samples: given.samples.unwrap_or(1),
+                limit: given.limit.unwrap_or(1_000_000),
+                quota: given.quota.unwrap_or(256),
+                slots: given.slots.unwrap_or(256),
+                viewers: given.viewers.unwrap_or(1),
+                frames: given.frames.unwrap_or(10),
+            },
         }
     }
 
@@ -150,7 +175,8 @@ impl Words {
             | Words::Value { .. }
             | Words::Ensemble { .. }
             | Words::Bench
-            | Words::Compact { .. } => true,
+            | Words::Compact { .. }
+            | Words::Watch { .. } => true,
             Words::Gen { .. } | Words::Stress { .. } => false,
         }
     }
