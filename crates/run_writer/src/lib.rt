@@ -10,8 +10,9 @@
 //! [`write_stress`] makes the same rounds and only counts: of a run that went to its end it writes how many events there
 //! were, when the last one was, and the counts of the last surface. `laws` says what run texts are, tick by tick.
 //!
-//! The crate stands on the crew, on the observers of `watching` and on the writers of lines. How a call ends, and what the words and the manifest are, is
-//! said by the crate above, which uses [`Buffer`] and [`flush_much`] for other texts of many lines too.
+//! The crate stands on the crew, on the observers of `watching` and on the writers of lines. How a call ends, and what the
+//! words and the manifest are, is said by the crate above, which uses [`Buffer`] and [`flush_much`] for other texts of many
+//! lines too.
 #![tactic(auto)]
 
 mod buffer;
