@@ -1,6 +1,5 @@
 -- An event that is due on a surface can happen there, and what it leaves.
-use Rattle.std.proofs.Common.{◌≡◌, ℕ, suc, ◌+◌, ◌<◌, ◌≤◌, ◌^◌, List, [], ◌∷◌, length, Option, Some, refl, sym, ap, ◌∙◌, arith, subst, drop, get_or, drop-cons}
-use Rattle.std.specs.Prelude.{All}
+use Rattle.std.proofs.Common.{◌≡◌, ℕ, suc, ◌+◌, ◌<◌, ◌≤◌, ◌^◌, List, ◌∷◌, length, Option, Some, sym, ap, ◌∙◌, arith, subst, drop, get_or, drop-cons}
 use Rattle.std.proofs.lemmas.List.{drop_all}
 use Rattle.surf_kinds.specs.declared.event.Event.{Event}
 use Rattle.surf_kinds.specs.declared.site.SiteState.{SiteState}
@@ -9,13 +8,13 @@ use Rattle.lattice.specs.Shape.{Shape}
 use Rattle.lattice.specs.Places.{IsPlace}
 use Rattle.lattice.specs.Surface.{after, after_all, IsChannelOf, HasRoom}
 use Rattle.plan.specs.Network.{Network}
-use Rattle.plan.specs.Products.{products_of, LeavesWithin}
+use Rattle.plan.specs.Products.{products_of}
 use Rattle.plan.specs.History.{due, AreNext}
 use Rattle.plan.proofs.LawLemmas.{due_next, offer_fits, fits_products}
 use Rattle.surface_state.specs.SurfaceView.{SurfaceView}
 use Rattle.surface_state.specs.Changes.{applied, IsSecondOf, AreBelow}
 use Rattle.surface_state.proofs.LawLemmas.{applied_after}
-use Rattle.one_engine.specs.Running.{IsSettled, CanFire}
+use Rattle.one_engine.specs.Running.{CanFire}
 use Rattle.one_engine.proofs.LawLemmas.{can_fire, settled_after, leaves_products}
 use Rattle.run_writer.specs.Counting.{GoesOn}
 use Rattle.run_writer.specs.StressText.{last_time}

@@ -1,16 +1,10 @@
 -- Lists of the next events of a surface.
-use Rattle.std.proofs.Common.{◌≡◌, ℕ, suc, ◌+◌, ◌<◌, ◌≤◌, List, [], ◌∷◌, ◌++◌, length, Some, false, refl, sym, ap, ◌∙◌, arith, subst, drop, get_or, drop-cons}
-use Rattle.std.proofs.lemmas.List.{drop_all, length-append}
-use Rattle.std.specs.Prelude.{◌==◌}
-use Rattle.std.proofs.lemmas.Bool.Decides.{nat_tests}
+use Rattle.std.proofs.Common.{◌≡◌, ℕ, ◌+◌, ◌<◌, ◌≤◌, List, length, Some, refl, sym, ap, ◌∙◌, arith, subst, drop, get_or}
+use Rattle.std.proofs.lemmas.List.{drop_all}
 use Rattle.surf_kinds.specs.declared.event.Event.{Event}
 use Rattle.surf_kinds.specs.declared.site.SiteState.{SiteState}
 use Rattle.lattice.specs.Surface.{after, after_all}
-use Rattle.plan.specs.Network.{Network}
-use Rattle.plan.specs.History.{due, history, AreNext}
-use Rattle.plan.proofs.LawLemmas.{history_next}
-use Rattle.one_engine.specs.State.{State, fired, fired_all, history_from}
-use Rattle.one_engine.proofs.LawLemmas.{fired_network, fired_sites}
+use Rattle.plan.specs.History.{due, AreNext}
 use Rattle.run_writer.specs.declared.writer.Writer.{Writer}
 use Rattle.run_writer.specs.Pages.{Page, Waiting}
 use Rattle.run_writer.specs.RunText.{Scene}

@@ -21,7 +21,7 @@ use Rattle.warp_core.specs.World.{end_key}
 use Rattle.warp_core.specs.Configs.{IsFresh}
 use Rattle.warp_core.proofs.LawLemmas.{sites-append, fresh_sites}
 use Rattle.region_run.specs.declared.region.Region.{Region}
-use Rattle.crew.specs.Crews.{CrewView, species_of, world_in}
+use Rattle.crew.specs.Crews.{CrewView, world_in}
 use Rattle.run_writer.specs.declared.writer.Writer.{Writer}
 use Rattle.run_writer.specs.Pages.{Page}
 use Rattle.run_writer.specs.RunText.{Scene, Reached, start, events_of}

@@ -1,5 +1,5 @@
 -- A run of which the events are counted alone.
-use Rattle.std.specs.Prelude.{◌≡◌, ℕ, ◌+◌, List, [], length, All}
+use Rattle.std.specs.Prelude.{◌≡◌, ◌+◌, List, [], length, All}
 use Rattle.surf_kinds.specs.declared.site.SiteState.{SiteState}
 use Rattle.plan.specs.Network.{Network}
 use Rattle.plan.specs.Products.{LeavesWithin}

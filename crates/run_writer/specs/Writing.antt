@@ -1,5 +1,5 @@
 -- How far a writer has come in the text of a run, and what it has written when it stops.
-use Rattle.std.specs.Prelude.{◌≡◌, ℕ, ◌+◌, ◌^◌, ◌<◌, ◌≤◌, List, [], ◌∷◌, ◌++◌, length, All, Result, Ok, Err}
+use Rattle.std.specs.Prelude.{◌≡◌, ℕ, ◌+◌, ◌^◌, ◌<◌, ◌≤◌, List, [], ◌++◌, length, All, Result, Ok, Err}
 use Rattle.plan.specs.Network.{Network}
 use Rattle.surface_state.specs.SurfaceView.{SurfaceView}
 use Rattle.one_engine.specs.State.{LeavesWithin}

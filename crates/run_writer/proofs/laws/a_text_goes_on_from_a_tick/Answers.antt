@@ -1,4 +1,3 @@
-use Rattle.run_writer.specs.RunText.{events_of}
 use Rattle.run_writer.proofs.CutTexts.{text_cut}
 use Rattle.run_writer.proofs.laws.a_text_goes_on_from_a_tick.Goals as goal
 

@@ -1,5 +1,4 @@
 use Rattle.std.proofs.Common.{Err, refl, ◌∙◌}
-use Rattle.run_writer.specs.Pages.{page}
 use Rattle.run_writer.specs.Writing.{scene_of, reached_of}
 use Rattle.run_writer.proofs.Progressing.{progress_start, progress_more, progress_ends, ends_no_limit}
 use Rattle.run_writer.proofs.Crewing.{same_self, same_more, finished_none}

@@ -1,8 +1,7 @@
-use Rattle.std.proofs.Common.{◌≡◌, ◌+◌, length, sym, ap, ◌∙◌}
+use Rattle.std.proofs.Common.{◌≡◌, sym, ◌∙◌}
 use Rattle.lattice.specs.Surface.{after_all}
-use Rattle.run_writer.specs.Pages.{page}
 use Rattle.run_writer.specs.Writing.{scene_of, reached_of}
-use Rattle.run_writer.specs.Crewed.{IsAlong, rounds_left, first_in, handed_by}
+use Rattle.run_writer.specs.Crewed.{first_in, handed_by}
 use Rattle.run_writer.proofs.Progressing.{progress_start, progress_memory}
 use Rattle.run_writer.proofs.Crewing.{round_next, round_wrote, round_same, round_fewer, round_limited, round_upto, round_seen, on_ok_then}
 use Rattle.run_writer.proofs.rounds.write_round.Goals as goal

@@ -1,4 +1,4 @@
-use Rattle.std.proofs.Common.{refl, sym, ap, ◌∙◌, subst}
+use Rattle.std.proofs.Common.{refl, sym, ap, subst}
 use Rattle.run_writer.specs.Pages.{Waiting}
 use Rattle.run_writer.specs.Writing.{scene_of}
 use Rattle.run_writer.specs.Crewed.{IsAlong}

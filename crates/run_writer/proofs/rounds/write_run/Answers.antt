@@ -1,6 +1,5 @@
-use Rattle.std.proofs.Common.{List, [], refl, sym, ap, ◌∙◌, subst}
+use Rattle.std.proofs.Common.{[], sym, ap, ◌∙◌, subst}
 use Rattle.std.specs.Prelude.{OnOk, All}
-use Rattle.surf_kinds.specs.declared.site.SiteState.{SiteState}
 use Rattle.surf_outside.specs.Known.{AppendsPrefix}
 use Rattle.plan.specs.Products.{LeavesWithin}
 use Rattle.surface_state.specs.SurfaceView.{SurfaceView}

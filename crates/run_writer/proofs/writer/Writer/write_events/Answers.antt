@@ -1,7 +1,7 @@
 use Rattle.std.proofs.Common.{Err, arith}
 use Rattle.run_writer.specs.Writing.{scene_of, reached_of}
 use Rattle.run_writer.proofs.Progressing.{progress_ends, flushed_advances, on_ok, no_limit}
-use Rattle.run_writer.proofs.Batches.{writing_step, writing_sites, writing_count, ready_sent}
+use Rattle.run_writer.proofs.Batches.{writing_step, writing_count, ready_sent}
 use Rattle.run_writer.proofs.writer.Writer.write_events.Goals as goal
 
 pub returns-in-Err-clause-advances : goal.returns-in-Err-clause-advances
