@@ -1,60 +1,17 @@
 //! The exit status of the program.
 
-ghost use Rattle.std.specs.Prelude.{◌≡◌, Option, drop, map, string_bytes};
+ghost use Rattle.std.specs.Prelude.{◌≡◌, Option, map, string_bytes};
 ghost use Rattle.crew.specs.Crews.{CrewView};
 ghost use Rattle.surf_kinds.specs.declared.status.Status.{Status};
 ghost use Rattle.surf_kinds.specs.Status.{code_of};
 ghost use Rattle.surface_words.specs.declared.commands.Program.TheVariants.{Surface};
 ghost use Rattle.surface_top.specs.Outcome.{source_view, sink_view, outside};
 ghost use Rattle.surface_top.specs.Reporting.{IsAnsweredCall};
-ghost use Rattle.surface.specs.Exit.{no_words, no_words_code};
 
 use std::alloc::Global;
-use std::io::ErrorKind;
 use std::thread::Threads;
 use surf_outside::{OpenGate, Sink, Source};
 use surface_top::surface_main;
-
-/// Why the program has no words to go by.
-#[derive(Clone, Copy, Debug, PartialEq, Eq)]
-pub(crate) enum NoWords {
-    /// There was no memory for them.
-    Memory,
-    /// One of them is no text.
-    NotText,
-}
-
-impl NoWords {
-    /// Why the system gave no words, by the kind of its error.
-    pub(crate) fn of(kind: ErrorKind) -> NoWords
-        ensures { result ≡ no_words kind }
-    {
-        match kind {
-            ErrorKind::OutOfMemory => NoWords::Memory,
-            _ => NoWords::NotText,
-        }
-    }
-
-    /// The exit status, of which the second is that of no top call.
-    pub(crate) fn code(self) -> u8
-        ensures { result ≡ no_words_code self }
-    {
-        match self {
-            NoWords::Memory => 6,
-            NoWords::NotText => 7,
-        }
-    }
-}
-
-/// The words behind the name of the program.
-pub(crate) fn words_behind_name(words: &[String]) -> &[String]
-    ensures { result.now ≡ drop 1 words.now }
-{
-    match words.split_first() {
-        Some((_, words)) => words,
-        None => words,
-    }
-}
 
 /// Answers the words with the top call, and gives the code of its status as the exit status.
 pub(crate) fn exit_code<R: Threads + Sync, S: Source, O: Sink, N: Sink>(

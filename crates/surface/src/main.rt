@@ -3,24 +3,18 @@
 
 mod exit;
 
-use exit::{NoWords, exit_code, words_behind_name};
-use std::env;
+use exit::exit_code;
+use program_words::{given_words, words_behind_name};
 use std::process::ExitCode;
 use surf_outside::{StdSink, StdSource};
 
 /// Ends with the code of the top call's status. Where the system doesn't give the words as texts it ends with 7,
 /// and where there is no memory for them with 6; then it writes nothing.
 fn main(rt: HostRuntime) -> ExitCode {
-    let args = match env::args(&rt) {
-        Ok(args) => args,
-        Err(error) => return ExitCode::from(NoWords::of(error.kind()).code()),
+    let words = match given_words(&rt) {
+        Ok(words) => words,
+        Err(none) => return ExitCode::from(none.code()),
     };
-    let mut words = Vec::new(rt.alloc());
-    for word in args {
-        if words.push(word).is_err() {
-            return ExitCode::from(NoWords::Memory.code());
-        }
-    }
     let mut source = StdSource::new(rt.stdin());
     let mut out = StdSink::new(rt.stdout());
     let mut notes = StdSink::new(rt.stderr());

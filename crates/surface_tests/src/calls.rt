@@ -9,6 +9,15 @@ use surf_outside::{Gate, MemSink, MemSource, OpenGate, Sink, Source};
 use surf_text::word_list;
 use surface_top::surface_main;
 
+/// The words of a line.
+pub(crate) fn words_of(alloc: Global, line: &str) -> Result<Vec<String>, NoMemory> {
+    let mut words = Vec::new(alloc);
+    for word in word_list(alloc, line)?.as_slice() {
+        words.push(String::from_str(alloc, *word)?)?;
+    }
+    Ok(words)
+}
+
 /// Calls the program with the words of a line.
 pub(crate) fn status_of<R: Threads + Sync, S: Source, O: Sink, N: Sink, G: Gate>(
     rt: &R,
@@ -19,10 +28,7 @@ pub(crate) fn status_of<R: Threads + Sync, S: Source, O: Sink, N: Sink, G: Gate>
     notes: &mut N,
     gate: &G,
 ) -> Result<Status, NoMemory> {
-    let mut words = Vec::new(alloc);
-    for word in word_list(alloc, line)?.as_slice() {
-        words.push(String::from_str(alloc, *word)?)?;
-    }
+    let words = words_of(alloc, line)?;
     let mut kept = None;
     let words = words.as_slice();
     Ok(surface_main(rt, alloc, words, &mut kept, source, out, notes, gate))

@@ -4,7 +4,7 @@ use Rattle.std.specs.Prelude.{IfSome, nat_lt, unwrap_or, ◌&&◌}
 use Rattle.std.specs.Option.{option_map_or}
 use Rattle.std.specs.Io.KnownBytes.{Appends, Consumes}
 use Rattle.std.proofs.lemmas.Bool.Decides.{nat_tests}
-use Rattle.surface_words.specs.declared.commands.Program.TheVariants.{Surface}
+use Rattle.surface_words.specs.declared.commands.Program.{Program}
 use Rattle.surface_words.specs.declared.words.Words.{Words}
 use Rattle.surface_words.specs.declared.words.Words.TheVariants as said
 use Rattle.surface_words.specs.FirstWrong.{first_wrong}
@@ -13,7 +13,7 @@ use Rattle.surface_words.specs.Reading.{reading, reads, spelled_words}
 use Rattle.surface_top.specs.declared.ending.Ending.{Ending}
 use Rattle.surface_top.specs.declared.ending.Ending.TheVariants as ending
 use Rattle.surface_top.specs.Answer.{Answer, TooLong, WrongWord, answer_within, answer_to, is_too_long, specified_answer}
-use Rattle.surface_top.specs.Ending.{status_of, IsEndingOf, EndsAs}
+use Rattle.surface_top.specs.Ending.{status_of, IsEndingOf, EndsAs, IsUnread}
 use Rattle.surface_top.specs.Outcome.{OutGains}
 use Rattle.surf_outside.proofs.LawLemmas.{wrote_nothing}
 
@@ -47,7 +47,7 @@ ends_bare answer Besides e a bytes unread old is h g rest = record {
 }
 
 -- a source that gave more bytes has more
-given_more : (unread rest : Option (List ℕ)) (bytes : List ℕ) (most : ℕ) → Consumes unread rest bytes → most < length bytes → most < length (given unread bytes)
+pub given_more : (unread rest : Option (List ℕ)) (bytes : List ℕ) (most : ℕ) → Consumes unread rest bytes → most < length bytes → most < length (given unread bytes)
 given_more None rest bytes most taken more = more
 given_more (Some all) None bytes most taken more = absurd taken
 given_more (Some all) (Some left) bytes most taken more =
@@ -64,13 +64,30 @@ short command bytes h few =
     let test : nat_lt 67108864 (length bytes) ≡ false = grind (arith, nat_tests) in
     ap (λ b. b && nat_lt 67108864 (length bytes)) h ∙ test
 
-pub ends_too_long : (words : List (List ℕ)) (command : Words) (Besides : List ℕ → Type 0) (bytes : List ℕ) (unread rest old : Option (List ℕ)) → reads command ≡ true → Consumes unread rest bytes → 67108864 < length bytes
-    → ((all : List ℕ) → is_too_long command all ≡ true → Besides all) → EndsAs (answer_to words command) Besides ending.TooLong unread old old
-ends_too_long words command Besides bytes unread rest old h taken more besides =
-    let long = too_long command (given unread bytes) h (given_more unread rest bytes 67108864 taken more) in
-    ends_bare (answer_to words command) Besides ending.TooLong TooLong bytes unread old
-    (ap (λ b. cond b TooLong (answer_within command words (given unread bytes))) long)
-    refl ((wrote_nothing old 0).gained) (besides (given unread bytes) long)
+-- the source was not read whole
+pub ends_unread : (words : List (List ℕ)) (command : Words) (Besides : List ℕ → Type 0) (e : Ending) (unread old : Option (List ℕ)) → reads command ≡ true → IsUnread e unread
+    → ((bytes : List ℕ) → (e ≡ ending.TooLong → is_too_long command bytes ≡ true) → Besides bytes) → EndsAs (answer_to words command) Besides e unread old old
+ends_unread words command Besides ending.ReadFault unread old h u besides = ends_read_fault (answer_to words command) Besides unread old (λ bytes. besides bytes (λ e. absurd (cc)))
+ends_unread words command Besides ending.Memory unread old h u besides = ends_memory (answer_to words command) Besides unread old (λ bytes. besides bytes (λ e. absurd (cc)))
+ends_unread words command Besides ending.TooLong unread old h u besides =
+    let long = too_long command u.0 h u.2 in
+    let is : answer_to words command u.0 ≡ TooLong = ap (λ b. cond b TooLong (answer_within command words u.0)) long in
+    record {
+      bytes = u.0;
+      agrees = u.1;
+      is_of = is;
+      gains = subst (λ x. OutGains (status_of ending.TooLong) x old old) (sym is) ((wrote_nothing old 0).gained);
+      besides = besides u.0 (λ e. long);
+    }
+ends_unread words command Besides ending.Done unread old h u besides = absurd u
+ends_unread words command Besides (ending.WrongWord index) unread old h u besides = absurd u
+ends_unread words command Besides (ending.BadManifest fault) unread old h u besides = absurd u
+ends_unread words command Besides (ending.BadCircuit fault) unread old h u besides = absurd u
+ends_unread words command Besides (ending.BadNetlist fault) unread old h u besides = absurd u
+ends_unread words command Besides (ending.WrongInputs expected given) unread old h u besides = absurd u
+ends_unread words command Besides (ending.TooManySites sites) unread old h u besides = absurd u
+ends_unread words command Besides (ending.EventLimit limit) unread old h u besides = absurd u
+ends_unread words command Besides ending.WriteFault unread old h u besides = absurd u
 
 -- the text that was read is answered
 pub ends_within : (words : List (List ℕ)) (command : Words) (Besides : List ℕ → Type 0) (text : List ℕ) (e : Ending) (unread old new : Option (List ℕ)) → reads command ≡ true → length text ≤ 67108864 → IfSome unread (λ all. text ≡ all)
@@ -86,10 +103,10 @@ ends_within words command Besides text e unread old new h few agrees is gains re
     }
 
 -- accepted words are answered by what they say
-pub ends_accepted : (words : List (List ℕ)) (command : Words) (Besides More : List ℕ → Type 0) (e : Ending) (unread old new : Option (List ℕ)) → reading Surface words ≡ Some command → EndsAs (answer_to words command) Besides e unread old new
-    → ((bytes : List ℕ) → Besides bytes → More bytes) → EndsAs (specified_answer Surface words) More e unread old new
-ends_accepted words command Besides More e unread old new is h more =
-    let same : specified_answer Surface words h.bytes ≡ answer_to words command h.bytes = ap (λ o. option_map_or (λ c. answer_to words c h.bytes) o (WrongWord (unwrap_or (first_wrong Surface words) 0))) is in
+pub ends_accepted : (program : Program) (words : List (List ℕ)) (command : Words) (Besides More : List ℕ → Type 0) (e : Ending) (unread old new : Option (List ℕ)) → reading program words ≡ Some command → EndsAs (answer_to words command) Besides e unread old new
+    → ((bytes : List ℕ) → Besides bytes → More bytes) → EndsAs (specified_answer program words) More e unread old new
+ends_accepted program words command Besides More e unread old new is h more =
+    let same : specified_answer program words h.bytes ≡ answer_to words command h.bytes = ap (λ o. option_map_or (λ c. answer_to words c h.bytes) o (WrongWord (unwrap_or (first_wrong program words) 0))) is in
     record {
       bytes = h.bytes;
       agrees = h.agrees;
@@ -99,11 +116,11 @@ ends_accepted words command Besides More e unread old new is h more =
     }
 
 -- others by their first wrong one
-pub ends_wrong : (words : List (List ℕ)) (Besides : List ℕ → Type 0) (index : ℕ) (unread old : Option (List ℕ)) → reading Surface words ≡ None → first_wrong Surface words ≡ Some index → ((bytes : List ℕ) → Besides bytes)
-    → EndsAs (specified_answer Surface words) Besides (ending.WrongWord index) unread old old
-ends_wrong words Besides index unread old none first rest =
-    ends_bare (specified_answer Surface words) Besides (ending.WrongWord index) (WrongWord index) [] unread old
-    (ap (λ o. option_map_or (λ c. answer_to words c (given unread [])) o (WrongWord (unwrap_or (first_wrong Surface words) 0))) none ∙ ap (λ o. WrongWord (unwrap_or o 0)) first)
+pub ends_wrong : (program : Program) (words : List (List ℕ)) (Besides : List ℕ → Type 0) (index : ℕ) (unread old : Option (List ℕ)) → reading program words ≡ None → first_wrong program words ≡ Some index → ((bytes : List ℕ) → Besides bytes)
+    → EndsAs (specified_answer program words) Besides (ending.WrongWord index) unread old old
+ends_wrong program words Besides index unread old none first rest =
+    ends_bare (specified_answer program words) Besides (ending.WrongWord index) (WrongWord index) [] unread old
+    (ap (λ o. option_map_or (λ c. answer_to words c (given unread [])) o (WrongWord (unwrap_or (first_wrong program words) 0))) none ∙ ap (λ o. WrongWord (unwrap_or o 0)) first)
     refl ((wrote_nothing old 0).gained) (rest (given unread []))
 
 -- a command that reads nothing has one answer, whatever the bytes are
@@ -133,9 +150,9 @@ ends_alone words command Besides text e unread old new h is gains rest =
     }
 
 -- words that aren't accepted say nothing
-pub unread_words : (words : List (List ℕ)) → (is_accepted Surface words ≡ true → ⊥) → reading Surface words ≡ None
-unread_words words h = by (is_accepted Surface words) h
+pub unread_words : (program : Program) (words : List (List ℕ)) → (is_accepted program words ≡ true → ⊥) → reading program words ≡ None
+unread_words program words h = by (is_accepted program words) h
   where
-    by : (b : Bool) → (b ≡ true → ⊥) → cond b (spelled_words Surface words) None ≡ None
+    by : (b : Bool) → (b ≡ true → ⊥) → cond b (spelled_words program words) None ≡ None
     by true h = absurd (h refl)
     by false h = refl

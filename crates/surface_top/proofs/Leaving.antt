@@ -11,7 +11,7 @@ use Rattle.warp_core.specs.World.{end_key}
 use Rattle.crew.specs.Crews.{CrewView, world_in}
 use Rattle.manifest_read.specs.declared.manifest.Manifest.{Manifest}
 use Rattle.manifest_read.specs.declared.fault.ManifestFault.{ManifestFault}
-use Rattle.surface_words.specs.declared.commands.Program.TheVariants.{Surface}
+use Rattle.surface_words.specs.declared.commands.Program.{Program}
 use Rattle.surface_words.specs.declared.words.Words.{Words}
 use Rattle.surface_words.specs.declared.words.Words.TheVariants as said
 use Rattle.surface_words.specs.Reading.{reading, reads}
@@ -21,7 +21,7 @@ use Rattle.surface_top.specs.declared.run.RunOptions.{RunOptions}
 use Rattle.surface_top.specs.declared.ending.Ending.{Ending}
 use Rattle.surface_top.specs.declared.ending.Ending.TheVariants as ending
 use Rattle.surface_top.specs.Answer.{is_too_long}
-use Rattle.surface_top.specs.Ending.{run_ending, status_of, IsNoManifest}
+use Rattle.surface_top.specs.Ending.{run_ending, status_of, IsNoManifest, IsUnread}
 use Rattle.surface_top.specs.Outcome.{is_over, are_too_many, has_too_many_nets, limit_or_faulty}
 use Rattle.run_writer.specs.RunText.{Scene, events_of}
 use Rattle.run_writer.specs.Stops.{IsLimited}
@@ -101,17 +101,32 @@ unread_leaves ending.WriteFault f read kept h none = absurd h
 pub too_long_leaves : (command : Words) (bytes : List ℕ) (kept : Option CrewView) → is_too_long command bytes ≡ true → kept ≡ None → Leaves ending.TooLong (run_to command bytes) kept
 too_long_leaves command bytes kept long none = subst (λ b. Leaves ending.TooLong (cond b None (run_within command bytes)) kept) (sym long) none
 
+-- where the source was not read whole
+pub source_leaves : (e : Ending) (unread : Option (List ℕ)) (command : Words) (bytes : List ℕ) (kept : Option CrewView) → IsUnread e unread → (e ≡ ending.TooLong → is_too_long command bytes ≡ true) → kept ≡ None → Leaves e (run_to command bytes) kept
+source_leaves ending.ReadFault unread command bytes kept u long none = read_leaves (run_to command bytes) kept none
+source_leaves ending.Memory unread command bytes kept u long none = memory_leaves (run_to command bytes) kept none
+source_leaves ending.TooLong unread command bytes kept u long none = too_long_leaves command bytes kept (long refl) none
+source_leaves ending.Done unread command bytes kept u long none = absurd u
+source_leaves (ending.WrongWord index) unread command bytes kept u long none = absurd u
+source_leaves (ending.BadManifest fault) unread command bytes kept u long none = absurd u
+source_leaves (ending.BadCircuit fault) unread command bytes kept u long none = absurd u
+source_leaves (ending.BadNetlist fault) unread command bytes kept u long none = absurd u
+source_leaves (ending.WrongInputs expected given) unread command bytes kept u long none = absurd u
+source_leaves (ending.TooManySites sites) unread command bytes kept u long none = absurd u
+source_leaves (ending.EventLimit limit) unread command bytes kept u long none = absurd u
+source_leaves ending.WriteFault unread command bytes kept u long none = absurd u
+
 -- with wrong words
-pub wrong_leaves : (words : List (List ℕ)) (index : ℕ) (bytes : List ℕ) (kept : Option CrewView) → reading Surface words ≡ None → kept ≡ None → Leaves (ending.WrongWord index) (specified_run Surface words bytes) kept
-wrong_leaves words index bytes kept h none = subst (λ (o : Option Words). Leaves (ending.WrongWord index) (option_map_or (λ command. run_to command bytes) o None) kept) (sym h) none
+pub wrong_leaves : (program : Program) (words : List (List ℕ)) (index : ℕ) (bytes : List ℕ) (kept : Option CrewView) → reading program words ≡ None → kept ≡ None → Leaves (ending.WrongWord index) (specified_run program words bytes) kept
+wrong_leaves program words index bytes kept h none = subst (λ (o : Option Words). Leaves (ending.WrongWord index) (option_map_or (λ command. run_to command bytes) o None) kept) (sym h) none
 
 -- What is left is that of the words
 
 pub within_leaves : (command : Words) (bytes : List ℕ) (e : Ending) (kept : Option CrewView) → is_too_long command bytes ≡ false → Leaves e (run_within command bytes) kept → Leaves e (run_to command bytes) kept
 within_leaves command bytes e kept short h = subst (λ b. Leaves e (cond b None (run_within command bytes)) kept) (sym short) h
 
-pub accepted_leaves : (words : List (List ℕ)) (command : Words) (bytes : List ℕ) (e : Ending) (kept : Option CrewView) → reading Surface words ≡ Some command → Leaves e (run_to command bytes) kept → Leaves e (specified_run Surface words bytes) kept
-accepted_leaves words command bytes e kept is h = subst (λ (o : Option Words). Leaves e (option_map_or (λ said. run_to said bytes) o None) kept) (sym is) h
+pub accepted_leaves : (program : Program) (words : List (List ℕ)) (command : Words) (bytes : List ℕ) (e : Ending) (kept : Option CrewView) → reading program words ≡ Some command → Leaves e (run_to command bytes) kept → Leaves e (specified_run program words bytes) kept
+accepted_leaves program words command bytes e kept is h = subst (λ (o : Option Words). Leaves e (option_map_or (λ said. run_to said bytes) o None) kept) (sym is) h
 
 -- a command that reads nothing runs the same, whatever the bytes are
 pub same_run : (command : Words) (xs ys : List ℕ) → reads command ≡ false → run_within command xs ≡ run_to command ys

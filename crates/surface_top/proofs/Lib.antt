@@ -11,3 +11,4 @@ mod Compiling
 mod NetlistAnswers
 mod Leaving
 mod Reports
+mod Watches

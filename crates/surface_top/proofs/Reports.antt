@@ -34,7 +34,7 @@ use Rattle.surface_top.specs.Crewed.{first_of}
 use Rattle.surface_top.specs.Ending.{IsEndingOf, EndsAs, status_of, answer_by}
 use Rattle.surface_top.specs.Outcome.{message, Gains, SinkView, Outside, IsOutcome}
 use Rattle.surface_top.specs.Kept.{Asked, IsCrewOf, scene_by, events_by, run_by, run_read, run_within, run_to, specified_run, Leaves, Keeps}
-use Rattle.surface_top.specs.Reporting.{report_text, says_report, wants_report, lines_of, line_in, IsRightReport, IsReportOf, IsReportOfKept, IsReportIf, Noted, Told}
+use Rattle.surface_top.specs.Reporting.{report_text, says_report, wants_report, lines_of, line_in, IsRightReport, IsReportOf, IsReportOfKept, IsReportIf, Noted, Told, Concluded}
 use Rattle.run_writer.proofs.LawLemmas.{first_fresh}
 use Rattle.surface_top.proofs.Leaving.{keeps, write_keeps, memory_keeps}
 use Rattle.surface_top.proofs.Outcomes.{outcome_of, outcome_memory}
@@ -109,11 +109,11 @@ pub right_of : (kept : Option CrewView) (crew : CrewView) → kept ≡ Some crew
 right_of kept crew is right = subst (λ (o : Option CrewView). IfSome o IsRightReport) (sym is) right
 
 -- What is said of the bytes of an ending may be said of these bytes alone.
-at_own : (answer : List ℕ → Answer) (Besides : List ℕ → Type 0) (e : Ending) (unread old new : Option (List ℕ)) (h : EndsAs answer Besides e unread old new) → EndsAs answer (λ bytes. (bytes ≡ h.bytes) × Besides bytes) e unread old new
+pub at_own : (answer : List ℕ → Answer) (Besides : List ℕ → Type 0) (e : Ending) (unread old new : Option (List ℕ)) (h : EndsAs answer Besides e unread old new) → EndsAs answer (λ bytes. (bytes ≡ h.bytes) × Besides bytes) e unread old new
 at_own answer Besides e unread old new h = record { bytes = h.bytes; agrees = h.agrees; is_of = h.is_of; gains = h.gains; besides = (refl, h.besides) }
 
 -- How a call ended, was told and reported, and what it left then.
-pub record Concludes (answer : List ℕ → Answer) (run : List ℕ → Option Asked) (wants : Bool) (before after : Ending) (kept left : Option CrewView) (old new : Outside) (mid : SinkView) (line : List ℕ) : Type 0 where
+pub record Concludes (answer : List ℕ → Answer) (run : List ℕ → Option Asked) (wants : Bool) (before after : Ending) (kept left : Option CrewView) (old new : Outside) (mid : SinkView) : Type 0 where
   pub ends : EndsAs answer (λ bytes. Leaves before (run bytes) kept) before old.source.unread old.out.written new.out.written
   pub runs : (bytes : List ℕ) → wants ≡ true → IsEndingOf ending.Done (answer bytes) → IsSome (run bytes)
   pub told : Told (line_in wants kept) before after old.notes mid
@@ -124,7 +124,7 @@ pub record Concludes (answer : List ℕ → Answer) (run : List ℕ → Option A
   pub write : before ≡ ending.WriteFault → Rose old.out.faults new.out.faults
 
 -- what a call that was told its lines leaves is left by its status
-left_keeps : (before after : Ending) (a : Option Asked) (kept left : Option CrewView) (lines : List ℕ) (old mid : SinkView) → Told lines before after old mid → (after ≡ before → left ≡ kept) → ((after ≡ before → ⊥) → left ≡ None)
+pub left_keeps : (before after : Ending) (a : Option Asked) (kept left : Option CrewView) (lines : List ℕ) (old mid : SinkView) → Told lines before after old mid → (after ≡ before → left ≡ kept) → ((after ≡ before → ⊥) → left ≡ None)
     → Leaves before a kept → Keeps (status_of after) a left
 left_keeps before after a kept left lines old mid (inl t) same none h =
     subst (λ (o : Option CrewView). Keeps (status_of after) a o) (sym (same t.0)) (subst (λ (e : Ending). Keeps (status_of e) a kept) (sym t.0) (keeps before a kept h))
@@ -198,36 +198,38 @@ reported true before after a kept left old mid (inr t) h some right same =
         }
 
 -- the outcome of a call that was told its lines, and then its message
-pub concludes : (answer : List ℕ → Answer) (run : List ℕ → Option Asked) (wants : Bool) (before after : Ending) (kept left : Option CrewView) (s : Status) (line : List ℕ) (old new : Outside) (mid : SinkView)
-    → Concludes answer run wants before after kept left old new mid line → s ≡ status_of after → line ≡ message (status_of after) (answer_by after) → Gains (Rose mid.faults new.notes.faults) line mid.written new.notes.written → mid.faults ≤ new.notes.faults
-    → (report : Report) × IsReportOfKept wants s left report × IsOutcome answer (λ bytes. Keeps s (run bytes) left × IsReportIf (run bytes) report) (lines_of wants report) s old new
-concludes answer run wants before after kept left s line old new mid h same is gains high =
-    let own = at_own answer (λ bytes. Leaves before (run bytes) kept) before old.source.unread old.out.written new.out.written h.ends in
-    let r = reported wants before after (run h.ends.bytes) kept left old.notes mid h.told h.ends.besides (λ d w. h.runs h.ends.bytes w (subst (λ (e : Ending). IsEndingOf e (answer h.ends.bytes)) d h.ends.is_of)) h.right h.same in (
-      r.report,
-      subst (λ (x : Status). IsReportOfKept wants x left r.report) (sym same) r.of_kept,
-      outcome_of answer _ (λ bytes. Keeps s (run bytes) left × IsReportIf (run bytes) r.report) (lines_of wants r.report) before after s line old new mid own r.told same
-          (λ bytes k. (
-            subst (λ (x : Status). Keeps x (run bytes) left) (sym same) (left_keeps before after (run bytes) kept left (lines_of wants r.report) old.notes mid r.told h.same h.none k.1),
-            subst (λ b. IsReportIf (run b) r.report) (sym k.0) r.right,
-          ))
-          is gains high h.read h.write,
-    )
-
--- the same where there was no memory for the message
-pub concludes_memory : (answer : List ℕ → Answer) (run : List ℕ → Option Asked) (wants : Bool) (before after : Ending) (kept left : Option CrewView) (line : List ℕ) (old new : Outside) (mid : SinkView)
-    → Concludes answer run wants before after kept left old new mid line → line ≡ codes "memory" ++ 10 ∷ [] → Gains (Rose mid.faults new.notes.faults) line mid.written new.notes.written
-    → (report : Report) × IsReportOfKept wants status.Memory None report × IsOutcome answer (λ bytes. Keeps status.Memory (run bytes) None × IsReportIf (run bytes) report) (lines_of wants report) status.Memory old new
-concludes_memory answer run wants before after kept left line old new mid h is gains =
-    let own = at_own answer (λ bytes. Leaves before (run bytes) kept) before old.source.unread old.out.written new.out.written h.ends in
-    let r = reported wants before after (run h.ends.bytes) kept left old.notes mid h.told h.ends.besides (λ d w. h.runs h.ends.bytes w (subst (λ (e : Ending). IsEndingOf e (answer h.ends.bytes)) d h.ends.is_of)) h.right h.same in (
-      r.report,
-      any_kept wants None r.report,
-      outcome_memory answer _ (λ bytes. Keeps status.Memory (run bytes) None × IsReportIf (run bytes) r.report) (lines_of wants r.report) before after line old new mid own r.told
-          (λ bytes k. (memory_keeps (run bytes) None refl, subst (λ b. IsReportIf (run b) r.report) (sym k.0) r.right))
-          is gains,
-    )
+pub concludes : (answer : List ℕ → Answer) (run : List ℕ → Option Asked) (wants : Bool) (before after : Ending) (kept left final : Option CrewView) (s : Status) (old new : Outside) (mid : SinkView)
+    → Concludes answer run wants before after kept left old new mid → Concluded after s left final mid new.notes
+    → (report : Report) × IsReportOfKept wants s final report × IsOutcome answer (λ bytes. Keeps s (run bytes) final × IsReportIf (run bytes) report) (lines_of wants report) s old new
+concludes answer run wants before after kept left final s old new mid h concluded = by concluded
   where
+    own : EndsAs answer (λ bytes. (bytes ≡ h.ends.bytes) × Leaves before (run bytes) kept) before old.source.unread old.out.written new.out.written
+    own = at_own answer (λ bytes. Leaves before (run bytes) kept) before old.source.unread old.out.written new.out.written h.ends
+
+    r : Reported wants before after (status_of after) (run h.ends.bytes) left old.notes mid
+    r = reported wants before after (run h.ends.bytes) kept left old.notes mid h.told h.ends.besides (λ d w. h.runs h.ends.bytes w (subst (λ (e : Ending). IsEndingOf e (answer h.ends.bytes)) d h.ends.is_of)) h.right h.same
+
     any_kept : (wants : Bool) (kept : Option CrewView) (r : Report) → IsReportOfKept wants status.Memory kept r
     any_kept true kept r = tt
     any_kept false kept r = tt
+
+    by : Concluded after s left final mid new.notes → (report : Report) × IsReportOfKept wants s final report × IsOutcome answer (λ bytes. Keeps s (run bytes) final × IsReportIf (run bytes) report) (lines_of wants report) s old new
+    by (inl t) = (
+      r.report,
+      subst (λ (o : Option CrewView). IsReportOfKept wants s o r.report) (sym t.1) (subst (λ (x : Status). IsReportOfKept wants x left r.report) (sym t.0) r.of_kept),
+      outcome_of answer _ (λ bytes. Keeps s (run bytes) final × IsReportIf (run bytes) r.report) (lines_of wants r.report) before after s _ old new mid own r.told t.0
+          (λ bytes k. (
+            subst (λ (o : Option CrewView). Keeps s (run bytes) o) (sym t.1)
+                (subst (λ (x : Status). Keeps x (run bytes) left) (sym t.0) (left_keeps before after (run bytes) kept left (lines_of wants r.report) old.notes mid r.told h.same h.none k.1)),
+            subst (λ b. IsReportIf (run b) r.report) (sym k.0) r.right,
+          ))
+          refl t.2 t.3 h.read h.write,
+    )
+    by (inr t) = (
+      r.report,
+      subst (λ (x : Status). IsReportOfKept wants x final r.report) (sym t.0) (any_kept wants final r.report),
+      subst (λ (x : Status). IsOutcome answer (λ bytes. Keeps x (run bytes) final × IsReportIf (run bytes) r.report) (lines_of wants r.report) x old new) (sym t.0)
+          (outcome_memory answer _ (λ bytes. Keeps status.Memory (run bytes) final × IsReportIf (run bytes) r.report) (lines_of wants r.report) before after _ old new mid own r.told
+          (λ bytes k. (memory_keeps (run bytes) final t.1, subst (λ b. IsReportIf (run b) r.report) (sym k.0) r.right))
+          refl t.2),
+    )

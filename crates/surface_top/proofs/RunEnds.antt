@@ -12,6 +12,9 @@ use Rattle.run_writer.specs.declared.pages.Stop.TheVariants as stop
 use Rattle.surface_top.specs.declared.ending.Ending.TheVariants as ending
 use Rattle.manifest_read.specs.declared.manifest.Manifest.{Manifest}
 use Rattle.plan.specs.Network.{Network}
+use Rattle.run_writer.specs.declared.writer.Span.{Span}
+use Rattle.surface_top.specs.declared.run.RunOptions.{RunOptions}
+use Rattle.surface_top.specs.Crewed.{network_of}
 use Rattle.surface_top.specs.Answer.{Answer, Text, EventLimit, scene_of}
 use Rattle.surface_top.specs.Ending.{Answered, run_ending}
 use Rattle.trace_text.specs.Lines.{event_text, end_text, limit_text}
@@ -101,3 +104,8 @@ scene_is m plan seed until samples limit s u p is iu =
     ap (λ x. scene m.names x (record { until = u; samples = samples; limit = limit })) p
     ∙ (ap (λ x. scene m.names (record { lattice = m.lattice; rules = m.rules; seed = x }) (record { until = u; samples = samples; limit = limit })) is
     ∙ ap (λ x. scene m.names (record { lattice = m.lattice; rules = m.rules; seed = unwrap_or seed m.seed }) (record { until = x; samples = samples; limit = limit })) iu)
+
+-- the scene of a run at its start is that of the options
+pub started_scene : (m : Manifest) (o : RunOptions) (plan : Network) (span : Span) → plan ≡ network_of (unwrap_or o.seed m.seed) m → span ≡ record { until = unwrap_or o.until m.until; samples = o.samples; limit = o.limit } → scene m.names plan span ≡ scene_of o.seed o.until o.samples o.limit m
+started_scene m o plan span p is =
+    ap (scene m.names plan) is ∙ scene_is m plan o.seed o.until o.samples o.limit (unwrap_or o.seed m.seed) (unwrap_or o.until m.until) p refl refl

@@ -1,5 +1,5 @@
 -- How a call ends, before its message is written.
-use Rattle.std.specs.Prelude.{◌≡◌, ◌≤◌, ◌^◌, ℕ, List, [], Option, None, Result, Ok, Err, ⊤, IsSome, IfSome}
+use Rattle.std.specs.Prelude.{◌≡◌, ◌<◌, ◌≤◌, ◌^◌, ℕ, List, [], length, Option, None, Result, Ok, Err, ⊤, IsSome, IfSome}
 use Rattle.surf_outside.specs.Causes.{Rose}
 use Rattle.surf_kinds.specs.declared.status.Status.{Status}
 use Rattle.surf_kinds.specs.declared.status.Status.TheVariants as status
@@ -130,6 +130,13 @@ abbrev pub IsNoNetlist : Ending → Result Netlist BenchFault → Type 0
 IsNoNetlist (ending.BadNetlist fault) read = read ≡ Err fault
 IsNoNetlist ending.Memory read = ⊤
 IsNoNetlist e read = ⊥
+
+-- the ending that stands for a source that wasn't read whole: it had a fault or too many bytes, or memory ran out
+abbrev pub IsUnread : Ending → Option (List ℕ) → Type 0
+IsUnread ending.ReadFault unread = ⊤
+IsUnread ending.TooLong unread = (bytes : List ℕ) × IfSome unread (λ all. bytes ≡ all) × (67108864 < length bytes)
+IsUnread ending.Memory unread = ⊤
+IsUnread e unread = ⊥
 
 -- the ending doesn't name a word
 abbrev pub IsAccepted : Ending → Type 0

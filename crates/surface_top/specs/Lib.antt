@@ -8,3 +8,4 @@ pub mod Crewed
 pub mod NetlistTexts
 pub mod Kept
 pub mod Reporting
+pub mod Watched

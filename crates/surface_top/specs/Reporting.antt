@@ -18,7 +18,8 @@ use Rattle.surface_words.specs.Reading.{reading}
 use Rattle.surface_top.specs.declared.ending.Ending.{Ending}
 use Rattle.surface_top.specs.declared.ending.Ending.TheVariants as ending
 use Rattle.surface_top.specs.Answer.{specified_answer}
-use Rattle.surface_top.specs.Outcome.{SinkView, Outside, IsOutcome}
+use Rattle.surface_top.specs.Ending.{status_of, answer_by}
+use Rattle.surface_top.specs.Outcome.{message, Gains, SinkView, Outside, IsOutcome}
 use Rattle.surface_top.specs.Kept.{Asked, events_by, Keeps, specified_run}
 
 -- report regions <n> rounds <r> fired <f> committed <c> cancelled <x>
@@ -81,6 +82,13 @@ abbrev pub Told : List ℕ → Ending → Ending → SinkView → SinkView → T
 Told lines before after old new =
     ((after ≡ before) × (new ≡ old) × (before ≡ ending.Done → lines ≡ []))
     ⊎ ((before ≡ ending.Done) × (lines ≢ []) × Noted after lines old new × (old.faults ≤ new.faults))
+
+-- How the message of an ending was written, and with which status the call ends then, and with which crew: with the status
+-- of the ending; or memory ran out, that is the status, and no crew is left.
+abbrev pub Concluded : Ending → Status → Option CrewView → Option CrewView → SinkView → SinkView → Type 0
+Concluded e s kept left old new =
+    ((s ≡ status_of e) × (left ≡ kept) × Gains (Rose old.faults new.faults) (message (status_of e) (answer_by e)) old.written new.written × (old.faults ≤ new.faults))
+    ⊎ ((s ≡ status.Memory) × (left ≡ None) × Gains (Rose old.faults new.faults) (codes "memory" ++ 10 ∷ []) old.written new.written)
 
 -- What a call leaves outside, by the answer of its words and bytes, and the crew and the report of a run that they ask for.
 abbrev pub IsAnsweredCall : Program → List (List ℕ) → Status → Option CrewView → Outside → Outside → Type 0

@@ -1,6 +1,6 @@
 //! The top call: from words and a source to what is written and a status.
 
-ghost use Rattle.std.specs.Prelude.{◌≡◌, ◌≤◌, ◌⊎◌, true, false, None, Ok, map, length, string_bytes, IfOk, IfErr, IfSome};
+ghost use Rattle.std.specs.Prelude.{◌≡◌, ◌≤◌, ◌⊎◌, true, false, None, Ok, map, length, string_bytes, IfOk, IfErr, IfSome, OnOk};
 ghost use Rattle.std.specs.Io.KnownBytes.{IsAtEnd};
 ghost use Rattle.surf_outside.specs.Causes.{Rose};
 ghost use Rattle.manifest_read.specs.Manifest.{manifest_of, IsValid};
@@ -9,9 +9,9 @@ ghost use Rattle.circuit_text.specs.Circuits.{circuit_in};
 ghost use Rattle.surface_words.specs.declared.commands.Program.TheVariants.{Surface};
 ghost use Rattle.surface_words.specs.Reading.{reading, reads, IsInRange};
 ghost use Rattle.surface_top.specs.Answer.{answer_within, answer_to, specified_answer, reads_source, inputs_in, by_manifest, by_circuit};
-ghost use Rattle.surface_top.specs.Ending.{manifest_answer, circuit_answer, status_of, IsWordsAnswer, IsNoManifest, IsNoCircuit, IsAccepted, IsWithin, Answered, EndsAs};
+ghost use Rattle.surface_top.specs.Ending.{manifest_answer, circuit_answer, status_of, IsWordsAnswer, IsNoManifest, IsNoCircuit, IsUnread, IsAccepted, IsWithin, Answered, EndsAs};
 ghost use Rattle.surface_top.specs.Kept.{run_by, run_read, run_within, run_to, specified_run, Leaves};
-ghost use Rattle.surface_top.specs.Reporting.{Told, line_in, wants_report, IsRightReport, IsAnsweredCall};
+ghost use Rattle.surface_top.specs.Reporting.{Told, line_in, wants_report, IsRightReport, Concluded, IsAnsweredCall};
 ghost use Rattle.surface_top.specs.Outcome.{own_status, Gains, source_view, sink_view, outside};
 
 use crate::answers::{LayoutKind, check, compile, generate, print, value};
@@ -34,7 +34,23 @@ use surface_words::{Program, Words};
 /// The most bytes that are read: 64 MiB.
 const MOST_BYTES: usize = 67_108_864;
 
-fn manifest(alloc: Global, text: &[u8]) -> Result<Manifest, Ending>
+/// All bytes of the source, or the ending that stands for a source that isn't read whole.
+pub(crate) fn source_text<S: Source>(alloc: Global, source: &mut S) -> Result<Vec<u8>, Ending>
+    ensures ok { IfOk result (λ text. IfSome (S.unread source.old) (λ all. text.items ≡ all)) }
+    ensures within { IfOk result (λ text. length text.items ≤ 67108864) }
+    ensures end { OnOk result (IsAtEnd (S.unread source.new)) }
+    ensures unread { IfErr result (λ e. IsUnread e (S.unread source.old)) }
+    ensures read { IfErr result (λ e. e ≡ Ending.ReadFault → Rose (S.faults source.old) (S.faults source.new)) }
+{
+    match slurp(alloc, source, MOST_BYTES) {
+        Ok(text) => Ok(text),
+        Err(SlurpError::Read) => Err(Ending::ReadFault),
+        Err(SlurpError::TooLong) => Err(Ending::TooLong),
+        Err(SlurpError::Memory) => Err(Ending::Memory),
+    }
+}
+
+pub(crate) fn manifest(alloc: Global, text: &[u8]) -> Result<Manifest, Ending>
     requires size { length text.now ≤ 67108864 }
     ensures ok { IfOk result (λ m. manifest_of text.now ≡ Ok m) }
     ensures sound { IfOk result IsSound }
@@ -269,13 +285,10 @@ fn answer_source<R: Threads + Sync, S: Source, O: Sink, G: Gate>(
     ensures read { result ≡ Ending.ReadFault → Rose (S.faults source.old) (S.faults source.new) }
     ensures write { result ≡ Ending.WriteFault → Rose (O.faults out.old) (O.faults out.new) }
 {
-    let text = match slurp(alloc, source, MOST_BYTES) {
-        Ok(text) => text,
-        Err(SlurpError::Read) => return Ending::ReadFault,
-        Err(SlurpError::TooLong) => return Ending::TooLong,
-        Err(SlurpError::Memory) => return Ending::Memory,
-    };
-    answer_text(rt, gate, alloc, words, command, &text, kept, out)
+    match source_text(alloc, source) {
+        Ok(text) => answer_text(rt, gate, alloc, words, command, &text, kept, out),
+        Err(ending) => ending,
+    }
 }
 
 /// Does all that the words ask for but the message. Wrong words come first, and then nothing is read or written.
@@ -313,6 +326,29 @@ fn put_message<N: Sink>(notes: &mut N, line: &[u8])
     ensures later { N.faults notes.old ≤ N.faults notes.new }
 {
     let _ = put_all(notes, line);
+}
+
+/// Writes the message of an ending and gives the status of the call. Where there is no memory for the message no crew is
+/// left.
+pub(crate) fn conclude<N: Sink>(
+    alloc: Global,
+    ending: Ending,
+    kept: &mut Option<Crew>,
+    notes: &mut N,
+) -> Status
+    ensures { Concluded ending result kept.old kept.new (sink_view (N.written notes.old) (N.faults notes.old)) (sink_view (N.written notes.new) (N.faults notes.new)) }
+{
+    match message_of(alloc, ending) {
+        Ok(line) => {
+            put_message(notes, line.as_bytes());
+            ending.status()
+        }
+        Err(_) => {
+            *kept = None;
+            put_message(notes, b"memory\n");
+            Status::Memory
+        }
+    }
 }
 
 /// Whether the words ask for a report.
@@ -412,15 +448,5 @@ pub fn surface_main<R: Threads + Sync, S: Source, O: Sink, N: Sink, G: Gate>(
     *kept = None;
     let ending = work(rt, gate, alloc, words, kept, source, out);
     let ending = report(alloc, words, ending, kept, notes);
-    match message_of(alloc, ending) {
-        Ok(line) => {
-            put_message(notes, line.as_bytes());
-            ending.status()
-        }
-        Err(_) => {
-            *kept = None;
-            put_message(notes, b"memory\n");
-            Status::Memory
-        }
-    }
+    conclude(alloc, ending, kept, notes)
 }

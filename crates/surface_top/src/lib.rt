@@ -21,6 +21,9 @@ mod netlists;
 mod report;
 mod run;
 mod stress;
+mod watch;
+mod watch_call;
 
 pub use call::surface_main;
 pub use surface_words::{Program, Words};
+pub use watch_call::watch_main;

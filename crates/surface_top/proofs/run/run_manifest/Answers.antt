@@ -1,5 +1,5 @@
 use Rattle.std.proofs.Common.{◌≡◌, ◌≤◌, length, refl, sym, ap, ◌∙◌, subst}
-use Rattle.std.specs.Prelude.{unwrap_or, OnOk}
+use Rattle.std.specs.Prelude.{OnOk}
 use Rattle.surface_state.specs.SurfaceView.{SurfaceView}
 use Rattle.run_writer.specs.RunText.{Scene, events_of}
 use Rattle.surface_top.specs.Answer.{run_answer, scene_of}
@@ -7,16 +7,12 @@ use Rattle.surface_top.specs.Ending.{Answered, run_ending}
 use Rattle.run_writer.specs.Writing.{scene}
 use Rattle.surface_top.specs.Crewed.{first_of, IsCrewFor}
 use Rattle.surface_top.proofs.Leaving.{run_leaves, few_events}
-use Rattle.surface_top.proofs.RunEnds.{run_answers, scene_is}
+use Rattle.surface_top.proofs.RunEnds.{run_answers, started_scene}
 use Rattle.surface_top.proofs.run.run_manifest.Given.{Over}
 use Rattle.surface_top.proofs.run.run_manifest.Goals as goal
 
 same_scene : (g : Over) (c : goal.After-drop-plan-inside-2 g) → scene c.args.manifest.now.names c.in-Ok.parts.0 c.span_of.result ≡ scene_of c.args.options.seed c.args.options.until c.args.options.samples c.args.options.limit c.args.manifest.now
-same_scene g c =
-    let m = c.args.manifest.now in
-    let o = c.args.options in
-    ap (scene m.names c.in-Ok.parts.0) c.span_of.ensures
-    ∙ scene_is m c.in-Ok.parts.0 o.seed o.until o.samples o.limit (unwrap_or o.seed m.seed) (unwrap_or o.until m.until) c.in-Ok.ensures.plan refl refl
+same_scene g c = started_scene c.args.manifest.now c.args.options c.in-Ok.parts.0 c.span_of.result c.in-Ok.ensures.plan c.span_of.ensures
 
 started_for : (g : Over) (c : goal.After-drop-plan-inside-2 g) → IsCrewFor (scene c.args.manifest.now.names c.in-Ok.parts.0 c.span_of.result).network (scene c.args.manifest.now.names c.in-Ok.parts.0 c.span_of.result).until (first_of c.args.manifest.now) c.args.options c.in-Ok.parts.2
 started_for g c =
