@@ -1,0 +1,72 @@
+//! Messages that are lawful and such that are not.
+
+use crate::walk::{A, B, C, D, E, Walk, event, instant, key};
+use border::Op;
+use lattice::{Kind, Lattice};
+use std::alloc::Global;
+use std::test::Fail;
+use surf_kinds::Rule;
+
+/// Region 1 of two rows of one site, A and B, with A + B -> C + D on a pair and B -> E.
+fn second_of_two(alloc: Global) -> Result<Option<Walk>, Fail> {
+    let rules = [
+        Rule::Two {
+            rate: instant(),
+            a: A,
+            b: B,
+            c: C,
+            d: D,
+        },
+        Rule::One {
+            rate: instant(),
+            a: B,
+            c: E,
+        },
+    ];
+    let lattice = Lattice::new(Kind::Square, 2, 1, false)?;
+    Ok(Walk::new(alloc, &rules, lattice, &[A, B])?)
+}
+
+/// Whether Puts that aren't lawful cut nothing, and leave clock and next key as they are.
+fn passes_over_unlawful_puts(alloc: Global) -> Result<bool, Fail> {
+    let Some(mut walk) = second_of_two(alloc)? else {
+        return Ok(false);
+    };
+    let puts = [
+        event(3, 8, 2),
+        event(3, 0, 2),
+        event(3, 2, 2),
+        event(3, 2, 9),
+        event(1_000_000_000_000_001, 2, 0),
+    ];
+    for put in puts {
+        if !walk.takes(Op::Put(put), 0, key(0, 0), key(1, 8))? {
+            return Ok(false);
+        }
+    }
+    Ok(true)
+}
+
+#[test]
+fn unlawful_puts_are_passed_over(rt: HostRuntime) -> Result<(), Fail> {
+    assert!(rt; passes_over_unlawful_puts(rt.alloc())?);
+    Ok(())
+}
+
+/// Whether the region goes back for a Back, and then for a Put.
+fn goes_back_twice(alloc: Global) -> Result<bool, Fail> {
+    let Some(mut walk) = second_of_two(alloc)? else {
+        return Ok(false);
+    };
+    let stepped = walk.step()?;
+    let back = walk.takes(Op::Back(key(1, 8)), 1, key(1, 8), key(1, 8))?;
+    let again = walk.step()?;
+    let put = walk.takes(Op::Put(event(1, 2, 0)), 1, key(1, 2), key(1, 2))?;
+    Ok(stepped && back && again && put)
+}
+
+#[test]
+fn a_message_cuts_what_lies_behind_it(rt: HostRuntime) -> Result<(), Fail> {
+    assert!(rt; goes_back_twice(rt.alloc())?);
+    Ok(())
+}
