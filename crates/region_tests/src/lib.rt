@@ -6,6 +6,8 @@
 #![tactic(auto)]
 
 #[cfg(test)]
+mod hostile_tests;
+#[cfg(test)]
 mod message_tests;
 #[cfg(test)]
 mod walk;

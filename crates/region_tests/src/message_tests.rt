@@ -70,3 +70,20 @@ fn a_message_cuts_what_lies_behind_it(rt: HostRuntime) -> Result<(), Fail> {
     assert!(rt; goes_back_twice(rt.alloc())?);
     Ok(())
 }
+
+/// Whether a region applies an event that it received, and forgets it at a commit.
+fn forgets_what_it_received(alloc: Global) -> Result<bool, Fail> {
+    let Some(mut walk) = second_of_two(alloc)? else {
+        return Ok(false);
+    };
+    let put = walk.takes(Op::Put(event(1, 2, 0)), 0, key(0, 0), key(1, 2))?;
+    let stepped = walk.step()?;
+    let own = walk.own(alloc)?;
+    Ok(put && stepped && own.len() == 0 && walk.commit() == 1)
+}
+
+#[test]
+fn a_commit_forgets_received_events(rt: HostRuntime) -> Result<(), Fail> {
+    assert!(rt; forgets_what_it_received(rt.alloc())?);
+    Ok(())
+}

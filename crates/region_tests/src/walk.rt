@@ -115,4 +115,21 @@ impl Walk {
                 && self.region.next_key(UNTIL) == next,
         )
     }
+
+    /// The own events below the clock.
+    pub fn own(&self, alloc: Global) -> Result<Vec<Event>, NoMemory> {
+        let mut own = Vec::new(alloc);
+        self.region.own_below(self.region.clock(), &mut own)?;
+        Ok(own)
+    }
+
+    /// Forgets the entries below the clock, and answers how many of them were received.
+    pub fn commit(&mut self) -> u64 {
+        self.region.commit_below(self.region.clock())
+    }
+
+    /// How many entries messages have cut so far.
+    pub fn cut_so_far(&self) -> u64 {
+        self.region.totals().cut
+    }
 }
