@@ -10,4 +10,6 @@ mod hostile_tests;
 #[cfg(test)]
 mod message_tests;
 #[cfg(test)]
+mod pair_tests;
+#[cfg(test)]
 mod walk;
