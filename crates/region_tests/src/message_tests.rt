@@ -1,30 +1,15 @@
 //! Messages that are lawful and such that are not.
 
-use crate::walk::{A, B, C, D, E, Walk, event, instant, key};
+use crate::walk::{A, B, Walk, event, key, pair_rules};
 use border::Op;
 use lattice::{Kind, Lattice};
 use std::alloc::Global;
 use std::test::Fail;
-use surf_kinds::Rule;
 
 /// Region 1 of two rows of one site, A and B, with A + B -> C + D on a pair and B -> E.
 fn second_of_two(alloc: Global) -> Result<Option<Walk>, Fail> {
-    let rules = [
-        Rule::Two {
-            rate: instant(),
-            a: A,
-            b: B,
-            c: C,
-            d: D,
-        },
-        Rule::One {
-            rate: instant(),
-            a: B,
-            c: E,
-        },
-    ];
     let lattice = Lattice::new(Kind::Square, 2, 1, false)?;
-    Ok(Walk::new(alloc, &rules, lattice, &[A, B])?)
+    Ok(Walk::new(alloc, &pair_rules(), lattice, &[A, B])?)
 }
 
 /// Whether Puts that aren't lawful cut nothing, and leave clock and next key as they are.

@@ -4,7 +4,7 @@ ghost use Rattle.std.specs.Prelude.{◌≡◌, ◌<◌, ◌≤◌, ◌*◌, leng
 ghost use Rattle.plan.specs.Products.{LeavesWithin};
 ghost use Rattle.region_run.specs.Channels.{IsOneRing};
 
-use crate::walk::{A, B, C, D, E, UNTIL, instant};
+use crate::walk::{A, B, UNTIL, pair_rules};
 use border::{InEnd, OutEnd, ring};
 use lattice::{Kind, Lattice};
 use plan::Plan;
@@ -113,22 +113,8 @@ impl Pair {
 
 /// The two regions of two rows of one site, A and B, with A + B -> C + D on a pair and B -> E.
 fn both_of_two(alloc: Global) -> Result<Option<Pair>, Fail> {
-    let rules = [
-        Rule::Two {
-            rate: instant(),
-            a: A,
-            b: B,
-            c: C,
-            d: D,
-        },
-        Rule::One {
-            rate: instant(),
-            a: B,
-            c: E,
-        },
-    ];
     let lattice = Lattice::new(Kind::Square, 2, 1, false)?;
-    Ok(Pair::new(alloc, &rules, lattice, &[A, B])?)
+    Ok(Pair::new(alloc, &pair_rules(), lattice, &[A, B])?)
 }
 
 /// What the two regions' turns do, after both applied their first events and the upper one's was handed down.

@@ -1,5 +1,8 @@
 //! A region that a test leads step by step.
 
+ghost use Rattle.std.specs.Prelude.{All};
+ghost use Rattle.plan.specs.Products.{LeavesWithin};
+
 use border::Op;
 use lattice::Lattice;
 use plan::Plan;
@@ -30,6 +33,26 @@ pub fn instant() -> Rate {
         p: 1_000_000_000,
         q: 1,
     }
+}
+
+/// The rules A + B -> C + D on a pair, and B -> E.
+pub fn pair_rules() -> [Rule; 2]
+    ensures { All (LeavesWithin 5) result }
+{
+    [
+        Rule::Two {
+            rate: instant(),
+            a: A,
+            b: B,
+            c: C,
+            d: D,
+        },
+        Rule::One {
+            rate: instant(),
+            a: B,
+            c: E,
+        },
+    ]
 }
 
 pub fn key(time: u64, place: u64) -> Key {
