@@ -40,7 +40,7 @@ fn a_fault_of_the_notes_is_one_where_the_answer_is_in_them(rt: HostRuntime) -> R
 
 /// An outside that reads a byte and writes so many at once, and whose read or write of a number fails, by the status of such
 /// a fault.
-fn failing(status: Status, number: u64, writes: usize) -> Outside {
+pub(crate) fn failing(status: Status, number: u64, writes: usize) -> Outside {
     let outside = Outside {
         reads: 1,
         writes,

@@ -1,6 +1,7 @@
 //! Watches over memory, and what the lines of their viewers say.
 
-use crate::calls::{expect, words_of};
+use crate::calls::{Answered, OPEN, Outside, compare, expect, words_of};
+use crate::fault_tests::failing;
 use crate::rows::{CATALYST, CATALYST_RUN};
 use std::alloc::Global;
 use std::process::Abort;
@@ -27,27 +28,26 @@ const FLIPS: &str =
 /// What a watch has left.
 #[derive(Drop)]
 struct Watched {
-    status: Status,
+    answered: Answered,
     has_crew: bool,
-    out: MemSink,
-    notes: MemSink,
 }
 
-/// Watches a run of a text. The notes take so many bytes at once, and fail at a call (0: at none).
+/// Watches a run of a text.
 fn watch<R: Threads + Wait + Sync, G: Gate>(
     rt: &R,
     gate: &G,
     alloc: Global,
     line: &str,
     text: &str,
-    writes: usize,
-    fault: u64,
+    outside: Outside,
 ) -> Result<Watched, NoMemory> {
     let words = words_of(alloc, line)?;
     let words = words.as_slice();
-    let mut source = MemSource::new(alloc, text.as_bytes(), 65_536, &[])?;
-    let mut out = MemSink::new(alloc, 1_000_000, 65_536, &[])?;
-    let mut notes = MemSink::new(alloc, 2_000_000, writes.max(1), &[fault])?;
+    let writes = outside.writes.max(1);
+    let reads = outside.reads.max(1);
+    let mut source = MemSource::new(alloc, text.as_bytes(), reads, &[outside.source])?;
+    let mut out = MemSink::new(alloc, 1_000_000, writes, &[outside.out])?;
+    let mut notes = MemSink::new(alloc, 2_000_000, writes, &[outside.notes])?;
     let mut kept = None;
     let status = watch_main(
         rt,
@@ -60,20 +60,23 @@ fn watch<R: Threads + Wait + Sync, G: Gate>(
         gate,
     );
     Ok(Watched {
-        status,
+        answered: Answered { status, out, notes },
         has_crew: kept.is_some(),
-        out,
-        notes,
     })
 }
 
 #[test]
 fn where_nothing_happens_all_samples_are_the_first_surface(rt: HostRuntime) -> Result<(), Fail> {
-    let seen = watch(&rt, &OpenGate, rt.alloc(), "watch", IDLE, 65_536, 0)?;
-    expect(&rt, seen.status == Status::Done, "status");
+    let seen = watch(&rt, &OpenGate, rt.alloc(), "watch", IDLE, OPEN)?;
+    compare(
+        &rt,
+        "watch",
+        &seen.answered,
+        Status::Done,
+        IDLE_RUN,
+        IDLE_LINES,
+    );
     expect(&rt, seen.has_crew, "crew");
-    expect(&rt, seen.out.bytes() == IDLE_RUN, "run");
-    expect(&rt, seen.notes.bytes() == IDLE_LINES, "lines");
     Ok(())
 }
 
@@ -125,25 +128,24 @@ fn are_two_viewers(notes: &[u8]) -> bool {
 
 #[test]
 fn viewers_see_states_of_the_run(rt: HostRuntime) -> Result<(), Fail> {
+    let run = CATALYST_RUN.as_bytes();
     let line = "watch --viewers 2 --frames 3";
-    let seen = watch(&rt, &OpenGate, rt.alloc(), line, CATALYST, 65_536, 0)?;
-    expect(&rt, seen.status == Status::Done, "status");
-    expect(&rt, seen.out.bytes() == CATALYST_RUN.as_bytes(), "run");
-    expect(&rt, are_two_viewers(seen.notes.bytes()), "lines");
-    let past = watch(
+    let seen = watch(&rt, &OpenGate, rt.alloc(), line, CATALYST, OPEN)?;
+    let notes = seen.answered.notes.bytes();
+    compare(&rt, line, &seen.answered, Status::Done, run, notes);
+    expect(&rt, are_two_viewers(notes), "lines");
+    let line = "watch --limit 1";
+    let past = watch(&rt, &OpenGate, rt.alloc(), line, CATALYST, OPEN)?;
+    let run: &[u8] = b"event 1 0 0 east 0 1\nlimit 1\n";
+    compare(
         &rt,
-        &OpenGate,
-        rt.alloc(),
-        "watch --limit 1",
-        CATALYST,
-        65_536,
-        0,
-    )?;
-    expect(&rt, past.status == Status::Limit && past.has_crew, "limit");
-    let limited: &[u8] = b"event 1 0 0 east 0 1\nlimit 1\n";
-    expect(&rt, past.out.bytes() == limited, "run up to the limit");
-    let message: &[u8] = b"limit events 1\n";
-    expect(&rt, past.notes.bytes() == message, "message");
+        line,
+        &past.answered,
+        Status::Limit,
+        run,
+        b"limit events 1\n",
+    );
+    expect(&rt, past.has_crew, "crew");
     Ok(())
 }
 
@@ -152,20 +154,69 @@ fn notes_that_fail_end_a_watch(rt: HostRuntime) -> Result<(), Fail> {
     let line: &[u8] = b"viewer 0 sample 0 events 0 tick 0 A:1\n";
     for done in 0..10_usize {
         let words = "watch --frames 1";
-        let fault = (done as u64).saturating_add(1);
-        let seen = watch(&rt, &OpenGate, rt.alloc(), words, IDLE, 4, fault)?;
-        expect(&rt, seen.status == Status::WriteFault, "status");
-        expect(&rt, !seen.has_crew, "crew");
-        expect(&rt, seen.out.bytes() == IDLE_RUN, "run");
+        let outside = Outside {
+            writes: 4,
+            notes: (done as u64).saturating_add(1),
+            ..OPEN
+        };
+        let seen = watch(&rt, &OpenGate, rt.alloc(), words, IDLE, outside)?;
         let gone = line.len().min(done.saturating_mul(4));
         let mut left = line[..gone].to_vec(rt.alloc())?;
         left.extend_from_slice(b"write fault\n")?;
-        expect(
+        compare(
             &rt,
-            seen.notes.bytes() == left.as_slice(),
-            "a prefix of the lines and the message",
+            words,
+            &seen.answered,
+            Status::WriteFault,
+            IDLE_RUN,
+            left.as_slice(),
         );
+        expect(&rt, !seen.has_crew, "crew");
     }
+    Ok(())
+}
+
+/// Lets each read or each write of a watch fail in turn, and sees that no more of the run is left than the writes before it
+/// took, and no crew. Gives how many reads or writes there are.
+fn every_call_fails<R: Threads + Wait + Sync + Abort>(
+    rt: &R,
+    alloc: Global,
+    status: Status,
+) -> Result<u64, Fail> {
+    let line = "watch --frames 1";
+    for number in 1..10_000 {
+        let seen = watch(
+            rt,
+            &OpenGate,
+            alloc,
+            line,
+            CATALYST,
+            failing(status, number, 1),
+        )?;
+        let before = number.saturating_sub(1);
+        if seen.answered.status == Status::Done {
+            return Ok(before);
+        }
+        let (message, most) = match status {
+            Status::ReadFault => ("read fault\n", 0),
+            _ => ("write fault\n", before),
+        };
+        let out = seen.answered.out.bytes();
+        compare(rt, line, &seen.answered, status, out, message.as_bytes());
+        expect(rt, CATALYST_RUN.as_bytes().starts_with(out), line);
+        expect(rt, out.len() as u64 <= most, line);
+        expect(rt, !seen.has_crew, line);
+    }
+    Err("too many calls".into())
+}
+
+#[test]
+fn each_call_of_the_outside_of_a_watch_may_fail(rt: HostRuntime) -> Result<(), Fail> {
+    let alloc = rt.alloc();
+    let reads = every_call_fails(&rt, alloc, Status::ReadFault)?;
+    expect(&rt, reads == CATALYST.len() as u64 + 1, "reads");
+    let writes = every_call_fails(&rt, alloc, Status::WriteFault)?;
+    expect(&rt, writes == 103, "writes");
     Ok(())
 }
 
@@ -187,18 +238,28 @@ impl Gate for SlowGate {
     fn leave(&self, _region: u32, _round: u64) {}
 }
 
-/// Whether some line shows a state after some of the 10,000 events, and not all.
-fn shows_some(alloc: Global, notes: &[u8]) -> Result<bool, Fail> {
+/// Whether a line shows a state after some of the 10,000 events, and not all.
+fn shows_some(alloc: Global, line: &[u8]) -> Result<bool, Fail> {
+    let text = String::from_utf8(line.to_vec(alloc)?)?;
+    let words = word_list(alloc, text.as_str())?;
+    if words.len() <= 5 {
+        return Ok(false);
+    }
+    match read_u64(words[5].as_bytes()) {
+        Some(events) => Ok(events > 0 && events < 10_000),
+        None => Ok(false),
+    }
+}
+
+/// Whether one of the lines does.
+fn some_line_shows_some(alloc: Global, notes: &[u8]) -> Result<bool, Fail> {
     let mut lines = Cursor::new(notes);
-    while let Some(line) = lines.next_line() {
-        let text = String::from_utf8(line.bytes.to_vec(alloc)?)?;
-        let words = word_list(alloc, text.as_str())?;
-        if words.len() > 5 {
-            if let Some(events) = read_u64(words[5].as_bytes()) {
-                if events > 0 && events < 10_000 {
-                    return Ok(true);
-                }
-            }
+    for _ in 0..100_000u32 {
+        let Some(line) = lines.next_line() else {
+            return Ok(false);
+        };
+        if shows_some(alloc, line.bytes)? {
+            return Ok(true);
         }
     }
     Ok(false)
@@ -215,11 +276,11 @@ fn is_seen_meanwhile<R: Threads + Wait + Sync + Abort>(
     };
     for _ in 0..200u32 {
         let line = "watch --viewers 4 --frames 500 --samples 0";
-        let seen = watch(rt, &gate, alloc, line, FLIPS, 65_536, 0)?;
-        if seen.status != Status::Done {
+        let seen = watch(rt, &gate, alloc, line, FLIPS, OPEN)?;
+        if seen.answered.status != Status::Done {
             return Ok(false);
         }
-        if shows_some(alloc, seen.notes.bytes())? {
+        if some_line_shows_some(alloc, seen.answered.notes.bytes())? {
             return Ok(true);
         }
     }

@@ -65,13 +65,19 @@ some_lines seats (Some a) some =
     let first = first_surface a.manifest.cells in
     let es = events_of s first in
     let numbers : List (List ℕ) = replicate seats.viewers (replicate seats.frames (length es)) in
-    let views = map (λ ks. map (λ e. state_after s.network.lattice s.network.rules (length s.names) first (take e es)) ks) numbers in (views_text s.names views, (views, record {
-        numbers = numbers;
-        count = length-replicate seats.viewers (replicate seats.frames (length es));
-        each = All-replicate (IsView seats.frames (length es)) seats.viewers (replicate seats.frames (length es)) (sees_all seats.frames (length es) some);
-        states = refl;
-      },
-      refl))
+    let views = map (λ ks. map (λ e. state_after s.network.lattice s.network.rules (length s.names) first (take e es)) ks) numbers in (
+      views_text s.names views,
+      (
+        views,
+        record {
+          numbers = numbers;
+          count = length-replicate seats.viewers (replicate seats.frames (length es));
+          each = All-replicate (IsView seats.frames (length es)) seats.viewers (replicate seats.frames (length es)) (sees_all seats.frames (length es) some);
+          states = refl;
+        },
+        refl,
+      ),
+    )
 
 -- What the program reads is a watch
 
