@@ -57,11 +57,11 @@ pub record Known (n : Network) (past : List Event) (es : List Event) (e : Event)
   pub below : AllKeys (λ k. k is_below key_of e) (past ++ es)
 
 place_within : (l : Shape) (place : ℕ) → IsPlace l place → place < end_of_places (l.rows * l.cols)
-place_within l place h = go (sites_of l place) refl h
+place_within l place h = let p = is_some (sites_of l place) h in place_below l place p.0 p.1
   where
-    go : (o : Option Sites) → sites_of l place ≡ o → IsSome o → place < end_of_places (l.rows * l.cols)
-    go None is g = absurd (false≢true g)
-    go (Some p) is g = place_below l place p is
+    is_some : (o : Option Sites) → IsSome o → (p : Sites) × (o ≡ Some p)
+    is_some None g = absurd (false≢true g)
+    is_some (Some p) g = (p, refl)
 
 module _ (n : Network) (b : Bands) (until : ℕ) (x : Base) (r : Region) (e : Event) (g : IsRegion n b until x r) (h : IsNextEntry (world_at n b until x) x.surface.sites r.id (part_of r) e) where
   laws : IsWorld (world_at n b until x)

@@ -38,7 +38,7 @@ pub enum SlurpError {
     Memory,
 }
 
-/// All the bytes that are left, at most `most`. After an error a prefix of them was taken.
+/// All the bytes that are left, at most `most`. After an error a prefix of them was taken, of at most one byte more.
 ///
 /// The list doubles its room as it grows, but takes room for no more than `most` bytes.
 pub fn slurp<S: Source>(alloc: Global, source: &mut S, most: usize) -> Result<Vec<u8>, SlurpError>
@@ -57,11 +57,12 @@ pub fn slurp<S: Source>(alloc: Global, source: &mut S, most: usize) -> Result<Ve
     // Where the bytes are told: exactly where more than `most` of them were taken.
     ensures too_long { IfSome (S.unread source.old) (λ bytes. IfSome (S.unread source.new) (λ rest.
         IsErrOf result SlurpError.TooLong ↔ (most + length rest < length bytes))) }
+    ensures at_most { IfSome (S.unread source.old) (λ bytes. IfSome (S.unread source.new) (λ rest. length bytes ≤ most + 1 + length rest)) }
 {
     let mut all: Vec<u8> = Vec::new(alloc);
     let mut piece = [0; PIECE];
     loop {
-        let n = match source.read(&mut piece) {
+        let n = match source.read(&mut piece[..next_size(all.len(), most)]) {
             Ok(n) => n,
             Err(_) => return Err(SlurpError::Read),
         };
@@ -75,6 +76,16 @@ pub fn slurp<S: Source>(alloc: Global, source: &mut S, most: usize) -> Result<Ve
             return Err(SlurpError::Memory);
         }
     }
+}
+
+/// How many bytes are asked for where so many of at most `most` were read: one past those at most.
+fn next_size(read: usize, most: usize) -> usize
+    requires { read ≤ most }
+    ensures some { 0 < result }
+    ensures piece { result ≤ 65536 }
+    ensures at_most { read + result ≤ most + 1 }
+{
+    (most - read).saturating_add(1).min(PIECE)
 }
 
 /// Puts a piece behind the bytes of a list that may grow to `most` bytes. After an error the bytes are unchanged.

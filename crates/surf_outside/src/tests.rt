@@ -47,8 +47,10 @@ fn a_source_is_read_to_its_end(rt: HostRuntime) -> Result<(), Fail> {
 
 #[test]
 fn a_source_with_a_byte_too_many_is_refused(rt: HostRuntime) -> Result<(), Fail> {
-    let mut source = MemSource::new(rt.alloc(), b"eight by", 3, &[])?;
+    let mut source = MemSource::new(rt.alloc(), b"eight bytes", 100, &[])?;
     assert_eq!(rt; slurp(rt.alloc(), &mut source, 7), Err(SlurpError::TooLong));
+    let rest = slurp(rt.alloc(), &mut source, 3)?;
+    assert_eq!(rt; rest.as_slice(), b"tes".as_slice());
     Ok(())
 }
 
