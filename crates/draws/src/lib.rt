@@ -7,12 +7,12 @@
 //! It stands on `rand_chacha` for the words, and on `surf_kinds` for the places.
 #![tactic(auto)]
 
-ghost use Rattle.std.specs.Prelude.{◌≡◌, ◌<◌, ◌+◌, ◌*◌, ◌^◌};
-ghost use Rattle.draws.specs.Draw.{draw_of, key_bytes};
+ghost use Rattle.std.specs.Prelude.{◌≡◌, ℕ, ◌<◌, ◌≤◌, ◌+◌, ◌*◌, ◌%◌, ◌^◌, slice_index};
+ghost use Rattle.draws.specs.Draw.{draw_of, draw_at, key_bytes};
 
 use rand_chacha::ChaCha8Rng;
 use rand_core::SeedableRng;
-use rand_core::utils::{NextWord, next_u64_via_u32};
+use rand_core::utils::next_u64_via_u32;
 use std::marker::Model;
 use surf_kinds::Place;
 
@@ -60,8 +60,7 @@ impl Drawer {
         let mut rng = ChaCha8Rng::from_seed(self.key);
         rng.set_stream(place.0);
         rng.set_word_pos(u128::from(occurrence) * 16384 + 2 * u128::from(channel - skipped));
-        skip_pairs(&mut rng, skipped);
-        next_u64_via_u32(&mut rng)
+        draws_of_block(rng)[usize::from(skipped)]
     }
 }
 
@@ -74,16 +73,33 @@ fn key_of_seed(seed: u64) -> [u8; 32]
     key
 }
 
-// Passes over so many pairs of words.
+// The next two words, the first as the low half.
 #[inline]
-fn skip_pairs(rng: &mut ChaCha8Rng, pairs: u16)
-    requires { rng.old.word_pos + 2 * pairs < 2 ^ 68 }
-    ensures { rng.new ≡ record rng.old { word_pos = rng.old.word_pos + 2 * pairs } }
+fn next_draw(rng: &mut ChaCha8Rng) -> u64
+    requires { rng.old.word_pos + 2 ≤ 2 ^ 68 }
+    ensures draw { result ≡ draw_at rng.old rng.old.word_pos }
+    ensures rest { rng.new ≡ record rng.old { word_pos = (rng.old.word_pos + 2) % 2 ^ 68 } }
 {
-    for _ in 0..pairs {
-        let _low = rng.next_word();
-        let _high = rng.next_word();
-    }
+    next_u64_via_u32(rng)
+}
+
+// The eight draws of the block at which the generator stands. All are made, one by one, since the compiler then knows where
+// each word lies, and leaves out all that the generator makes beyond the block.
+#[inline]
+fn draws_of_block(mut rng: ChaCha8Rng) -> [u64; 8]
+    requires { rng.word_pos + 16 ≤ 2 ^ 68 }
+    ensures { (i : ℕ) → i < 8 → slice_index result i ≡ draw_at rng (rng.word_pos + 2 * i) }
+{
+    [
+        next_draw(&mut rng),
+        next_draw(&mut rng),
+        next_draw(&mut rng),
+        next_draw(&mut rng),
+        next_draw(&mut rng),
+        next_draw(&mut rng),
+        next_draw(&mut rng),
+        next_draw(&mut rng),
+    ]
 }
 
 #[cfg(test)]
