@@ -24,9 +24,15 @@ fn is_name_byte(c: u8) -> bool
     !(is_blank(c) || c == b'#' || c == b'(' || c == b')' || c == b',' || c == b'=')
 }
 
+fn are_name_bytes(bytes: &[u8]) -> bool
+    ensures { result ≡ list_all is_name_byte bytes.now }
+{
+    bytes.iter().all(|c| is_name_byte(*c))
+}
+
 /// Whether a word is a name: it has bytes, and none is a blank, a bracket, a comma, `=` or `#`.
 pub(crate) fn is_name(word: &[u8]) -> bool
     ensures { result ≡ is_name word.now }
 {
-    !word.is_empty() && word.iter().all(|c| is_name_byte(*c))
+    !word.is_empty() && are_name_bytes(word)
 }
