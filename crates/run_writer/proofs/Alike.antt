@@ -8,11 +8,6 @@ use Rattle.plan.specs.History.{due, history, AreNext}
 use Rattle.plan.proofs.LawLemmas.{history_next, history_none}
 use Rattle.warp_core.proofs.LawLemmas.{sites-append}
 use Rattle.crew.specs.Crews.{CrewView}
-use Rattle.surf_kinds.specs.declared.site.SpeciesId.{SpeciesId}
-use Rattle.lattice.specs.Surface.{first_surface}
-use Rattle.plan.specs.Network.{Network}
-use Rattle.plan.specs.Products.{LeavesWithin}
-use Rattle.surface_state.specs.SurfaceView.{SurfaceView}
 use Rattle.one_engine.specs.Running.{IsSettled}
 use Rattle.one_engine.proofs.LawLemmas.{first_settled}
 use Rattle.run_writer.specs.declared.counting.RunEnd.{RunEnd}
@@ -20,6 +15,7 @@ use Rattle.run_writer.specs.Counting.{GoesOn, EndsAlike}
 use Rattle.run_writer.specs.Crewed.{IsAlong}
 use Rattle.run_writer.specs.Cuts.{surface_after}
 use Rattle.run_writer.specs.RunText.{Scene, Reached, events_of}
+use Rattle.run_writer.specs.Runs.{MayRun}
 use Rattle.run_writer.specs.StressText.{last_time}
 
 last_append : (tick : ℕ) (xs ys : List Event) → last_time tick (xs ++ ys) ≡ last_time (last_time tick xs) ys
@@ -72,5 +68,5 @@ pub along_counted : (s : Scene) (c : CrewView) (r : Reached) → IsAlong s c r �
 along_counted s c r a = record { network = a.network; until = a.until; reached = a.reached; count = a.count }
 
 -- a first surface goes on
-pub first_goes_on : (n : Network) (v : SurfaceView) (cells : List SpeciesId) → v.lattice ≡ n.lattice → All (LeavesWithin v.species_count) n.rules → v.sites ≡ first_surface cells → GoesOn n v
-first_goes_on n v cells lattice species is = record { lattice = lattice; species = species; settled = subst (All IsSettled) (sym is) (first_settled cells) }
+pub first_goes_on : (s : Scene) (c : CrewView) → MayRun s c → GoesOn s.network c.start
+first_goes_on s c may = record { lattice = may.lattice; species = may.species; settled = subst (All IsSettled) (sym may.first.1) (first_settled may.first.0) }

@@ -10,6 +10,7 @@ use Rattle.run_writer.specs.Pages.{Page, Waiting}
 use Rattle.run_writer.specs.RunText.{Scene}
 use Rattle.run_writer.specs.Writing.{reached_of, IsReady, Progress}
 use Rattle.run_writer.proofs.Applying.{dropped}
+use Rattle.run_writer.proofs.Firing.{ready_with}
 use Rattle.run_writer.proofs.Progressing.{progress_start, progress_more}
 
 -- the first i of a list of events were written
@@ -50,13 +51,4 @@ writing_sites s w v events i a b t h = sym (ap (after_all s.network.lattice s.ne
 
 -- a writer that has sent what waits is ready still
 pub ready_sent : (s : Scene) (w : Writer) (buffer : Waiting) → IsReady s w → IsReady s (record w { buffer = buffer })
-ready_sent s w buffer h = record {
-  long = h.long;
-  lattice = h.lattice;
-  species_count = h.species_count;
-  species = h.species;
-  settled = h.settled;
-  tally = h.tally;
-  within = h.within;
-  ticks = h.ticks;
-}
+ready_sent s w buffer h = ready_with s w w.ticks buffer h.ticks h

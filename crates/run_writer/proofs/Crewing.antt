@@ -25,6 +25,7 @@ use Rattle.crew.specs.Crews.{CrewView, world_in}
 use Rattle.run_writer.specs.declared.writer.Writer.{Writer}
 use Rattle.run_writer.specs.Pages.{Page}
 use Rattle.run_writer.specs.RunText.{Scene, Reached, start, events_of}
+use Rattle.run_writer.specs.Runs.{MayRun}
 use Rattle.run_writer.specs.Writing.{reached_of, IsReady, Progress}
 use Rattle.run_writer.proofs.Endings.{first_fresh}
 use Rattle.run_writer.specs.Crewed.{IsAlong, IsPastLimit, IsSameCrew, rounds_left, first_in, handed_by}
@@ -249,29 +250,28 @@ starts_at : (c : CrewView) (cells : List SpeciesId) → c.start.sites ≡ first_
 starts_at c cells is = fresh_sites c.start.sites (subst (All IsFresh) (sym is) (first_fresh cells))
 
 -- has handed out nothing
-pub along_first : (s : Scene) (c : CrewView) (cells : List SpeciesId) → c.network ≡ s.network → c.until ≡ s.until → c.horizon ≡ origin → c.start.sites ≡ first_surface cells → IsAlong s c (start s c.start.sites)
-along_first s c cells network until horizon is = record {
-  network = network;
-  until = until;
-  reached = starts_at c cells is ∙ ap (after_all c.network.lattice c.network.rules (first_in c)) (sym (handed_none c horizon));
-  count = sym (ap length (handed_none c horizon));
+pub along_first : (s : Scene) (c : CrewView) → MayRun s c → IsAlong s c (start s c.start.sites)
+along_first s c may = record {
+  network = may.network;
+  until = may.until;
+  reached = starts_at c may.first.0 may.first.1 ∙ ap (after_all c.network.lattice c.network.rules (first_in c)) (sym (handed_none c may.horizon));
+  count = sym (ap length (handed_none c may.horizon));
 }
 
 -- so who has seen none of its events has seen that
-pub seen_first : (P : List SiteState → List Event → Type 0) (c : CrewView) (cells : List SpeciesId) → c.horizon ≡ origin → c.start.sites ≡ first_surface cells → P c.start.sites [] → P (first_in c) (handed_by c)
-seen_first P c cells horizon is seen =
-    subst (λ (x : List SiteState). P x (handed_by c)) (starts_at c cells is) (subst (P c.start.sites) (sym (handed_none c horizon)) seen)
+pub seen_first : (P : List SiteState → List Event → Type 0) (s : Scene) (c : CrewView) → MayRun s c → P c.start.sites [] → P (first_in c) (handed_by c)
+seen_first P s c may seen =
+    subst (λ (x : List SiteState). P x (handed_by c)) (starts_at c may.first.0 may.first.1) (subst (P c.start.sites) (sym (handed_none c may.horizon)) seen)
 
 -- A finished one has handed out all events of the run
-pub seen_all : (P : List SiteState → List Event → Type 0) (s : Scene) (c d : CrewView) (cells : List SpeciesId) → c.network ≡ s.network → c.until ≡ s.until → c.start.sites ≡ first_surface cells → IsSameCrew c d → d.horizon ≡ end_key (world_in d)
-    → P (first_in d) (handed_by d) → P c.start.sites (events_of s c.start.sites)
-seen_all P s c d cells network until is same ends seen =
+pub seen_all : (P : List SiteState → List Event → Type 0) (s : Scene) (c d : CrewView) → MayRun s c → IsSameCrew c d → d.horizon ≡ end_key (world_in d) → P (first_in d) (handed_by d) → P c.start.sites (events_of s c.start.sites)
+seen_all P s c d may same ends seen =
     let first : first_in d ≡ c.start.sites =
-    sym (starts_at d cells (ap (λ (x : SurfaceView). x.sites) same.start ∙ is)) ∙ ap (λ (x : SurfaceView). x.sites) same.start in
+    sym (starts_at d may.first.0 (ap (λ (x : SurfaceView). x.sites) same.start ∙ may.first.1)) ∙ ap (λ (x : SurfaceView). x.sites) same.start in
     let events : handed_by d ≡ events_of s c.start.sites =
     ap (λ (k : Key). below k (world_in d).history) ends
     ∙ (keep_all (λ k. is_before k (end_key (world_in d))) (world_in d).history (within_end d.network d.until (world_in d).history (first_in d) (is_history d.network d.until (first_in d)))
     ∙ (ap (λ (x : List SiteState). history d.network d.until x) first
-    ∙ (ap (λ (n : Network). history n d.until c.start.sites) (same.network ∙ network)
-    ∙ ap (λ (u : ℕ). history s.network u c.start.sites) (same.until ∙ until)))) in
+    ∙ (ap (λ (n : Network). history n d.until c.start.sites) (same.network ∙ may.network)
+    ∙ ap (λ (u : ℕ). history s.network u c.start.sites) (same.until ∙ may.until)))) in
     subst (λ (x : List SiteState). P x (events_of s c.start.sites)) first (subst (P (first_in d)) events seen)

@@ -14,6 +14,7 @@ use Rattle.surface_state.specs.Changes.{applied, IsSecondOf, AreBelow}
 use Rattle.plan.specs.Products.{LeavesWithin}
 use Rattle.run_writer.specs.declared.writer.Writer.{Writer}
 use Rattle.run_writer.specs.Counting.{GoesOn}
+use Rattle.run_writer.specs.Pages.{Waiting}
 use Rattle.run_writer.specs.RunText.{Scene, Reached, reached, ticks_from, ticks_before}
 use Rattle.plan.specs.History.{due}
 use Rattle.run_writer.specs.Writing.{reached_of, IsReady}
@@ -21,19 +22,23 @@ use Rattle.run_writer.proofs.Sampling.{within_from, all_before}
 use Rattle.run_writer.proofs.Applying.{at_place, of_channel, with_room, with_pair, of_species, applied_is, goes_on_after}
 use Rattle.run_writer.proofs.Progressing.{IsDue}
 
+-- a writer is ready still with other ticks of the run and with other bytes that wait
+pub ready_with : (s : Scene) (w : Writer) (ticks : List ℕ) (buffer : Waiting) → All (λ tick. tick ≤ s.until) ticks → IsReady s w → IsReady s (record w { ticks = ticks; buffer = buffer })
+ready_with s w ticks buffer within h = record {
+  long = h.long;
+  lattice = h.lattice;
+  species_count = h.species_count;
+  species = h.species;
+  settled = h.settled;
+  tally = h.tally;
+  within = h.within;
+  ticks = within;
+}
+
 -- a writer that has shown its surface is ready still
 pub ready_shown : (s : Scene) (w v : Writer) (time : ℕ) → v ≡ record w { ticks = ticks_from time w.ticks; buffer = v.buffer } → IsReady s w → IsReady s v
 ready_shown s w v time is h =
-    subst (IsReady s) (sym is) (record {
-      long = h.long;
-      lattice = h.lattice;
-      species_count = h.species_count;
-      species = h.species;
-      settled = h.settled;
-      tally = h.tally;
-      within = h.within;
-      ticks = within_from s.until time w.ticks h.ticks;
-    })
+    subst (IsReady s) (sym is) (ready_with s w (ticks_from time w.ticks) v.buffer (within_from s.until time w.ticks h.ticks) h)
 
 pub due_shown : (s : Scene) (w v : Writer) (time : ℕ) (e : Event) → v ≡ record w { ticks = ticks_from time w.ticks; buffer = v.buffer } → IsDue s (reached_of w) e → IsDue s (reached_of v) e
 due_shown s w v time e is h =

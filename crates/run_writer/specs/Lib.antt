@@ -5,5 +5,6 @@ pub mod Writing
 pub mod Stops
 pub mod Cuts
 pub mod Crewed
+pub mod Runs
 pub mod StressText
 pub mod Counting

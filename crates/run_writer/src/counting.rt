@@ -1,11 +1,7 @@
 //! How a run by a crew ends: what its rounds hand out is counted, and none of it is written or stays in memory.
 
-ghost use Rattle.std.specs.Prelude.{◌≡◌, ◌≢◌, ◌≤◌, ◌<◌, ◌+◌, ◌^◌, ℕ, List, All, length, ◌++◌, IfOk, OnOk, IsErrOf, string_bytes};
-ghost use Rattle.surf_outside.specs.Causes.{Rose};
-ghost use Rattle.surf_kinds.specs.declared.site.SpeciesId.{SpeciesId};
-ghost use Rattle.surf_kinds.specs.Keys.{origin};
-ghost use Rattle.lattice.specs.Surface.{after_all, first_surface};
-ghost use Rattle.plan.specs.Products.{LeavesWithin};
+ghost use Rattle.std.specs.Prelude.{◌≡◌, ◌≢◌, ◌≤◌, ◌<◌, ◌+◌, ◌^◌, ℕ, length, ◌++◌, IfOk, OnOk, IsErrOf, string_bytes};
+ghost use Rattle.lattice.specs.Surface.{after_all};
 ghost use Rattle.plan.specs.History.{AreNext};
 ghost use Rattle.warp_core.specs.World.{end_key};
 ghost use Rattle.crew.specs.Crews.{world_in};
@@ -14,7 +10,8 @@ ghost use Rattle.run_writer.specs.Counting.{GoesOn, EndsAlike, counted_of};
 ghost use Rattle.run_writer.specs.Crewed.{IsAlong, IsPastLimit, IsSameCrew, rounds_left};
 ghost use Rattle.run_writer.specs.Cuts.{surface_after};
 ghost use Rattle.run_writer.specs.RunText.{events_of};
-ghost use Rattle.run_writer.specs.Stops.{IsLimited, EndGains};
+ghost use Rattle.run_writer.specs.Runs.{HasEnded, MayRun};
+ghost use Rattle.run_writer.specs.Stops.{EndGains};
 ghost use Rattle.run_writer.specs.StressText.{last_time, stress_line, stress_text};
 ghost use Rattle.run_writer.specs.Writing.{scene_of};
 
@@ -171,22 +168,11 @@ pub fn write_stress<R: Threads + Sync, O: Sink, G: Gate>(
     mut surface: Surface,
     out: &mut O,
 ) -> Result<(), Stop>
-    requires lattice { surface.lattice ≡ task.now.plan.now.lattice }
-    requires species_count { surface.species_count ≡ length task.now.names.now }
-    requires species { All (LeavesWithin surface.species_count) task.now.plan.now.rules }
-    requires first { (cells : List SpeciesId) × (surface.sites ≡ first_surface cells) }
-    requires duration { task.now.span.until ≤ 10 ^ 15 }
-    requires network { crew.old.network ≡ task.now.plan.now }
-    requires until { crew.old.until ≡ task.now.span.until }
+    requires may { MayRun (scene_of task.now) crew.old }
     requires start { crew.old.start ≡ surface }
-    requires horizon { crew.old.horizon ≡ origin }
-    ensures limited { IsLimited result (scene_of task.now) surface.sites }
-    ensures text { EndGains result (stress_text number (scene_of task.now) surface.sites) (O.written out.old) (O.written out.new) }
-    ensures write { IsErrOf result Stop.Write → Rose (O.faults out.old) (O.faults out.new) }
-    ensures few { IsErrOf result Stop.Write → length (events_of (scene_of task.now) surface.sites) ≤ task.now.span.limit }
-    ensures finished { OnOk result (crew.new.horizon ≡ end_key (world_in crew.new)) }
-    ensures past { IsErrOf result Stop.Limit → IsPastLimit (scene_of task.now) crew.new }
-    ensures same { IsSameCrew crew.old crew.new }
+    ensures ended { HasEnded result (scene_of task.now) crew.old crew.new (O.faults out.old) (O.faults out.new) }
+    ensures text { EndGains result (stress_text number (scene_of task.now) crew.old.start.sites) (O.written out.old) (O.written out.new) }
+    ensures few { IsErrOf result Stop.Write → length (events_of (scene_of task.now) crew.old.start.sites) ≤ task.now.span.limit }
 {
     let end = match count_rounds(rt, gate, task, crew, &mut surface) {
         Ok(end) => end,

@@ -1,21 +1,16 @@
 //! A run by a crew: what its rounds hand out is written as they end, and an observer is told of it.
 
-ghost use Rattle.std.specs.Prelude.{◌≡◌, ◌≢◌, ◌<◌, ◌≤◌, ◌+◌, ◌-◌, ◌^◌, ◌++◌, List, All, [], length, OnOk, IsErrOf};
+ghost use Rattle.std.specs.Prelude.{◌≡◌, ◌≢◌, ◌<◌, ◌≤◌, ◌+◌, ◌-◌, ◌^◌, ◌++◌, List, [], length, OnOk, IsErrOf};
 ghost use Rattle.surf_kinds.specs.declared.event.Event.{Event as TheEvent};
 ghost use Rattle.surf_kinds.specs.declared.site.SiteState.{SiteState as TheSite};
-ghost use Rattle.surf_kinds.specs.declared.site.SpeciesId.{SpeciesId};
-ghost use Rattle.surf_kinds.specs.Keys.{origin};
-ghost use Rattle.surf_outside.specs.Causes.{Rose};
-ghost use Rattle.surf_outside.specs.Known.{AppendsPrefix};
-ghost use Rattle.lattice.specs.Surface.{after_all, first_surface};
+ghost use Rattle.lattice.specs.Surface.{after_all};
 ghost use Rattle.plan.specs.History.{AreNext};
-ghost use Rattle.plan.specs.Products.{LeavesWithin};
 ghost use Rattle.warp_core.specs.World.{end_key};
 ghost use Rattle.crew.specs.Crews.{world_in};
 ghost use Rattle.run_writer.specs.Crewed.{IsAlong, IsPastLimit, IsSameCrew, rounds_left, first_in, handed_by};
 ghost use Rattle.run_writer.specs.Pages.{page};
-ghost use Rattle.run_writer.specs.RunText.{events_of, run_text};
-ghost use Rattle.run_writer.specs.Stops.{IsLimited, RunGains};
+ghost use Rattle.run_writer.specs.RunText.{events_of};
+ghost use Rattle.run_writer.specs.Runs.{HasRun, MayRun};
 ghost use Rattle.run_writer.specs.Writing.{scene_of, reached_of, Begins, IsReady, Advances, Ends};
 
 use crate::pages::Stop;
@@ -136,25 +131,11 @@ pub fn write_rounds<R: Threads + Sync, O: Sink, G: Gate, W: Observer<R>>(
     out: &mut O,
     observer: &mut W,
 ) -> Result<(), Stop>
-    requires lattice { crew.old.start.lattice ≡ task.now.plan.now.lattice }
-    requires species_count { crew.old.start.species_count ≡ length task.now.names.now }
-    requires species { All (LeavesWithin crew.old.start.species_count) task.now.plan.now.rules }
-    requires first { (cells : List SpeciesId) × (crew.old.start.sites ≡ first_surface cells) }
-    requires duration { task.now.span.until ≤ 10 ^ 15 }
+    requires may { MayRun (scene_of task.now) crew.old }
     requires limit { task.now.span.limit < 2 ^ 64 - 1 }
-    requires network { crew.old.network ≡ task.now.plan.now }
-    requires until { crew.old.until ≡ task.now.span.until }
-    requires horizon { crew.old.horizon ≡ origin }
     requires begins { Begins task.now.span crew.old.start writer.old }
     requires seen { W.has_seen observer.old task.now.plan.now crew.old.start.sites [] }
-    ensures limited { IsLimited result (scene_of task.now) crew.old.start.sites }
-    ensures text { RunGains result (run_text (scene_of task.now) crew.old.start.sites) (O.written out.old) (O.written out.new) }
-    ensures prefix { AppendsPrefix (O.written out.old) (O.written out.new) (run_text (scene_of task.now) crew.old.start.sites) }
-    ensures later { O.faults out.old ≤ O.faults out.new }
-    ensures write { IsErrOf result Stop.Write → Rose (O.faults out.old) (O.faults out.new) }
-    ensures finished { OnOk result (crew.new.horizon ≡ end_key (world_in crew.new)) }
-    ensures past { IsErrOf result Stop.Limit → IsPastLimit (scene_of task.now) crew.new }
-    ensures same { IsSameCrew crew.old crew.new }
+    ensures run { HasRun result (scene_of task.now) crew.old crew.new (O.written out.old) (O.written out.new) (O.faults out.old) (O.faults out.new) }
     ensures seen { OnOk result (W.has_seen observer.new task.now.plan.now crew.old.start.sites (events_of (scene_of task.now) crew.old.start.sites)) }
     ensures mark { W.mark observer.new ≡ W.mark observer.old }
 {
@@ -172,27 +153,13 @@ pub fn write_run<R: Threads + Sync, O: Sink, G: Gate, W: Observer<R>>(
     out: &mut O,
     observer: &mut W,
 ) -> Result<(), Stop>
-    requires lattice { surface.lattice ≡ task.now.plan.now.lattice }
-    requires species_count { surface.species_count ≡ length task.now.names.now }
-    requires species { All (LeavesWithin surface.species_count) task.now.plan.now.rules }
-    requires first { (cells : List SpeciesId) × (surface.sites ≡ first_surface cells) }
-    requires duration { task.now.span.until ≤ 10 ^ 15 }
+    requires may { MayRun (scene_of task.now) crew.old }
     requires samples { task.now.span.samples ≤ 10000 }
     requires limit { task.now.span.limit < 2 ^ 64 - 1 }
-    requires network { crew.old.network ≡ task.now.plan.now }
-    requires until { crew.old.until ≡ task.now.span.until }
     requires start { crew.old.start ≡ surface }
-    requires horizon { crew.old.horizon ≡ origin }
-    requires seen { W.has_seen observer.old task.now.plan.now surface.sites [] }
-    ensures limited { IsLimited result (scene_of task.now) surface.sites }
-    ensures text { RunGains result (run_text (scene_of task.now) surface.sites) (O.written out.old) (O.written out.new) }
-    ensures prefix { AppendsPrefix (O.written out.old) (O.written out.new) (run_text (scene_of task.now) surface.sites) }
-    ensures later { O.faults out.old ≤ O.faults out.new }
-    ensures write { IsErrOf result Stop.Write → Rose (O.faults out.old) (O.faults out.new) }
-    ensures finished { OnOk result (crew.new.horizon ≡ end_key (world_in crew.new)) }
-    ensures past { IsErrOf result Stop.Limit → IsPastLimit (scene_of task.now) crew.new }
-    ensures same { IsSameCrew crew.old crew.new }
-    ensures seen { OnOk result (W.has_seen observer.new task.now.plan.now surface.sites (events_of (scene_of task.now) surface.sites)) }
+    requires seen { W.has_seen observer.old task.now.plan.now crew.old.start.sites [] }
+    ensures run { HasRun result (scene_of task.now) crew.old crew.new (O.written out.old) (O.written out.new) (O.faults out.old) (O.faults out.new) }
+    ensures seen { OnOk result (W.has_seen observer.new task.now.plan.now crew.old.start.sites (events_of (scene_of task.now) crew.old.start.sites)) }
     ensures mark { W.mark observer.new ≡ W.mark observer.old }
 {
     let mut writer = Writer::new(alloc, surface, task.span);

@@ -6,7 +6,6 @@ use Rattle.plan.specs.Network.{Network}
 use Rattle.surface_state.specs.SurfaceView.{SurfaceView}
 use Rattle.surf_kinds.specs.declared.status.Status.TheVariants as status
 use Rattle.surf_kinds.specs.declared.site.SiteState.{SiteState}
-use Rattle.lattice.specs.Surface.{first_surface}
 use Rattle.warp_core.specs.World.{end_key}
 use Rattle.crew.specs.Crews.{CrewView, world_in}
 use Rattle.manifest_read.specs.declared.manifest.Manifest.{Manifest}
@@ -26,8 +25,9 @@ use Rattle.surface_top.specs.Outcome.{is_over, are_too_many, has_too_many_nets, 
 use Rattle.run_writer.specs.RunText.{Scene, events_of}
 use Rattle.run_writer.specs.Stops.{IsLimited}
 use Rattle.run_writer.specs.Crewed.{IsPastLimit, IsSameCrew}
+use Rattle.run_writer.specs.Runs.{HasEnded}
 use Rattle.surface_top.specs.Crewed.{IsCrewFor, first_of}
-use Rattle.surface_top.specs.Kept.{Asked, scene_by, run_read, run_within, run_to, specified_run, left_by, RunLeaves, Leaves, Keeps}
+use Rattle.surface_top.specs.Kept.{Asked, scene_by, events_by, IsCrewOf, run_read, run_within, run_to, specified_run, left_by, RunLeaves, Leaves, Keeps}
 
 same_for : (n : Network) (tick : ℕ) (first : SurfaceView) (o : RunOptions) (c d : CrewView) → IsCrewFor n tick first o c → IsSameCrew c d → IsCrewFor n tick first o d
 same_for n tick first o c d h same = record {
@@ -39,27 +39,28 @@ same_for n tick first o c d h same = record {
   slots = same.slots ∙ h.slots;
 }
 
--- the history of a scene has no more events than any limit allows
-abbrev pub AreFew : Scene → Asked → Type 0
-AreFew s a = length (events_of s (first_surface a.manifest.cells)) ≤ 10000000
-
-pub few_events : {T : Type 0} (r : Result T Stop) (s : Scene) (sites : List SiteState) → IsLimited r s sites → s.limit ≤ 10000000 → OnOk r (length (events_of s sites) ≤ 10000000)
+-- a history that was written to its end has no more events than any limit allows
+few_events : {T : Type 0} (r : Result T Stop) (s : Scene) (sites : List SiteState) → IsLimited r s sites → s.limit ≤ 10000000 → OnOk r (length (events_of s sites) ≤ 10000000)
 few_events (Ok x) s sites few small = omega (arith, few, small)
 few_events (Err e) s sites few small = tt
 
-leaves : {T : Type 0} (r : Result T Stop) (a : Asked) (s : Scene) (d : CrewView) → s ≡ scene_by a → IsCrewFor s.network s.until (first_of a.manifest) a.options d → OnOk r (d.horizon ≡ end_key (world_in d)) → OnOk r (AreFew s a) → (IsErrOf r stop.Limit → IsPastLimit s d)
-    → RunLeaves (run_ending s.limit r) a (left_by (run_ending s.limit r) d)
-leaves (Ok x) a s d is h finished few past = (d, refl, subst (λ (x : Scene). IsCrewFor x.network x.until (first_of a.manifest) a.options d) is h, finished, subst (λ (x : Scene). AreFew x a) is few)
-leaves (Err stop.Limit) a s d is h finished few past = (d, refl, subst (λ (x : Scene). IsCrewFor x.network x.until (first_of a.manifest) a.options d) is h, subst (λ (x : Scene). IsPastLimit x d) is (past refl))
-leaves (Err stop.Write) a s d is h finished few past = refl
-leaves (Err stop.Memory) a s d is h finished few past = refl
+leaves : {T : Type 0} (r : Result T Stop) (a : Asked) (d : CrewView) → IsCrewOf a d → OnOk r (d.horizon ≡ end_key (world_in d)) → OnOk r (length (events_by a) ≤ 10000000) → (IsErrOf r stop.Limit → IsPastLimit (scene_by a) d)
+    → RunLeaves (run_ending a.options.limit r) a (left_by (run_ending a.options.limit r) d)
+leaves (Ok x) a d h finished few past = (d, refl, h, finished, few)
+leaves (Err stop.Limit) a d h finished few past = (d, refl, h, past refl)
+leaves (Err stop.Write) a d h finished few past = refl
+leaves (Err stop.Memory) a d h finished few past = refl
 
--- a run that has made its crew into another of the same run leaves it by how it ended
-pub run_leaves : {T : Type 0} (r : Result T Stop) (a : Asked) (s : Scene) (c d : CrewView) (kept : Option CrewView) (e : Ending) → s ≡ scene_by a → IsCrewFor s.network s.until (first_of a.manifest) a.options c → IsSameCrew c d
-    → OnOk r (d.horizon ≡ end_key (world_in d)) → OnOk r (AreFew s a) → (IsErrOf r stop.Limit → IsPastLimit s d) → kept ≡ left_by e d → e ≡ run_ending s.limit r → RunLeaves e a kept
-run_leaves r a s c d kept e same_scene h same finished few past is ends =
+-- a run that has ended leaves its crew by how it ended
+pub run_leaves : {T : Type 0} (r : Result T Stop) (a : Asked) (s : Scene) (c d : CrewView) (kept : Option CrewView) (e : Ending) (f n : ℕ) → s ≡ scene_by a → IsCrewOf a c → HasEnded r s c d f n → a.options.limit ≤ 10000000
+    → kept ≡ left_by e d → e ≡ run_ending a.options.limit r → RunLeaves e a kept
+run_leaves r a s c d kept e f n same_scene h has_ended small is ends =
+    let t = scene_by a in
+    let ended : HasEnded r t c d f n = subst (λ (x : Scene). HasEnded r x c d f n) same_scene has_ended in
+    let few : OnOk r (length (events_by a) ≤ 10000000) =
+    subst (λ (x : SurfaceView). OnOk r (length (events_of t x.sites) ≤ 10000000)) h.start (few_events r t c.start.sites ended.limited small) in
     subst (RunLeaves e a) (sym is)
-    (subst (λ x. RunLeaves x a (left_by x d)) (sym ends) (leaves r a s d same_scene (same_for s.network s.until (first_of a.manifest) a.options c d h same) finished few past))
+    (subst (λ x. RunLeaves x a (left_by x d)) (sym ends) (leaves r a d (same_for t.network t.until (first_of a.manifest) a.options c d h ended.same) ended.finished few ended.past))
 
 -- Nothing is left
 

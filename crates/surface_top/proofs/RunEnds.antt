@@ -12,6 +12,8 @@ use Rattle.run_writer.specs.declared.pages.Stop.TheVariants as stop
 use Rattle.surface_top.specs.declared.ending.Ending.TheVariants as ending
 use Rattle.manifest_read.specs.declared.manifest.Manifest.{Manifest}
 use Rattle.plan.specs.Network.{Network}
+use Rattle.surface_state.specs.SurfaceView.{SurfaceView}
+use Rattle.crew.specs.Crews.{CrewView}
 use Rattle.run_writer.specs.declared.writer.Span.{Span}
 use Rattle.surface_top.specs.declared.run.RunOptions.{RunOptions}
 use Rattle.surface_top.specs.Crewed.{network_of}
@@ -19,6 +21,7 @@ use Rattle.surface_top.specs.Answer.{Answer, Text, EventLimit, scene_of}
 use Rattle.surface_top.specs.Ending.{Answered, run_ending}
 use Rattle.trace_text.specs.Lines.{event_text, end_text, limit_text}
 use Rattle.run_writer.specs.RunText.{Scene, Reached, events_of, shown, ticks_before, reached, start, text_from, run_text}
+use Rattle.run_writer.specs.Runs.{HasRun}
 use Rattle.run_writer.specs.Stops.{IsLimited, RunGains}
 use Rattle.run_writer.specs.Writing.{scene}
 
@@ -85,18 +88,19 @@ run_text_some : (s : Scene) (sites : List SiteState) → run_text s sites ≢ []
 run_text_some s sites = text_some (events_of s sites) s (start s sites)
 
 -- a run ends as its answer wants
-pub run_ends : {T : Type 0} (r : Result T Stop) (s : Scene) (sites : List SiteState) (old new : Option (List ℕ)) (f n : ℕ) → IsLimited r s sites → RunGains r (run_text s sites) old new → (IsErrOf r stop.Write → Rose f n) → Answered (by_limit (nat_lt s.limit (length (events_of s sites))) s.limit (run_text s sites) (run_text s sites)) (run_ending s.limit r) old new f n
+run_ends : {T : Type 0} (r : Result T Stop) (s : Scene) (sites : List SiteState) (old new : Option (List ℕ)) (f n : ℕ) → IsLimited r s sites → RunGains r (run_text s sites) old new → (IsErrOf r stop.Write → Rose f n) → Answered (by_limit (nat_lt s.limit (length (events_of s sites))) s.limit (run_text s sites) (run_text s sites)) (run_ending s.limit r) old new f n
 run_ends (Ok x) s sites old new f n h g w = ends_whole _ s.limit (run_text s sites) (run_text s sites) old new f n (grind (arith, nat_tests)) g
 run_ends (Err stop.Limit) s sites old new f n h g w = ends_limited _ s.limit (run_text s sites) (run_text s sites) old new f n (grind (arith, nat_tests)) g
 run_ends (Err stop.Write) s sites old new f n h g w = ends_stopped _ s.limit (run_text s sites) old new f n (run_text_some s sites) g (w refl)
 run_ends (Err stop.Memory) s sites old new f n h g w = ends_wanting _ s.limit (run_text s sites) old new f n g
 
 -- the same where the scene and the surface are known by other names
-pub run_answers : {T : Type 0} (r : Result T Stop) (s t : Scene) (sites first : List SiteState) (old new : Option (List ℕ)) (f n : ℕ) → s ≡ t → sites ≡ first → IsLimited r s sites → RunGains r (run_text s sites) old new → (IsErrOf r stop.Write → Rose f n) → Answered (by_limit (nat_lt t.limit (length (events_of t first))) t.limit (run_text t first) (run_text t first)) (run_ending t.limit r) old new f n
-run_answers r s t sites first old new f n e d h g w =
-    subst (λ x. Answered (by_limit (nat_lt t.limit (length (events_of t x))) t.limit (run_text t x) (run_text t x)) (run_ending t.limit r) old new f n) d
-    (subst (λ x. Answered (by_limit (nat_lt x.limit (length (events_of x sites))) x.limit (run_text x sites) (run_text x sites)) (run_ending x.limit r) old new f n) e
-    (run_ends r s sites old new f n h g w))
+pub run_answers : {T : Type 0} (r : Result T Stop) (s t : Scene) (c d : CrewView) (first : SurfaceView) (old new : Option (List ℕ)) (f n : ℕ) → s ≡ t → c.start ≡ first → HasRun r s c d old new f n
+    → Answered (by_limit (nat_lt t.limit (length (events_of t first.sites))) t.limit (run_text t first.sites) (run_text t first.sites)) (run_ending t.limit r) old new f n
+run_answers r s t c d first old new f n same starts run =
+    subst (λ (x : SurfaceView). Answered (by_limit (nat_lt t.limit (length (events_of t x.sites))) t.limit (run_text t x.sites) (run_text t x.sites)) (run_ending t.limit r) old new f n) starts
+    (subst (λ (x : Scene). Answered (by_limit (nat_lt x.limit (length (events_of x c.start.sites))) x.limit (run_text x c.start.sites) (run_text x c.start.sites)) (run_ending x.limit r) old new f n) same
+    (run_ends r s c.start.sites old new f n run.ended.limited run.text run.ended.write))
 
 -- the scene that a manifest with these words makes
 pub scene_is : (m : Manifest) (plan : Network) (seed until : Option ℕ) (samples limit s u : ℕ) → plan ≡ record { lattice = m.lattice; rules = m.rules; seed = s } → s ≡ unwrap_or seed m.seed → u ≡ unwrap_or until m.until → scene m.names plan (record { until = u; samples = samples; limit = limit }) ≡ scene_of seed until samples limit m

@@ -63,7 +63,7 @@ pub(crate) fn watch_manifest<R: Threads + Wait + Sync, O: Sink + Send, G: Gate>(
         plan: &plan,
         span: span_of(manifest, options),
     };
-    let run = run_watched(rt, gate, alloc, &task, &mut crew, surface, seats, out);
+    let run = run_watched(rt, gate, alloc, &task, seats, &mut crew, surface, out);
     let ending = ending_with(run, options.limit, lines);
     *kept = left_by(ending, crew);
     ending

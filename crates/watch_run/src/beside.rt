@@ -2,15 +2,11 @@
 
 ghost use Rattle.std.specs.Prelude.{◌≡◌, ◌<◌, ◌≤◌, ◌+◌, ◌-◌, ◌^◌, List, [], All, length, vec_len, OnOk, IfOk, IfErr};
 ghost use Rattle.surf_kinds.specs.declared.site.SiteState.{SiteState as TheSite};
-ghost use Rattle.surf_kinds.specs.declared.site.SpeciesId.{SpeciesId};
-ghost use Rattle.surf_kinds.specs.Keys.{origin};
-ghost use Rattle.lattice.specs.Surface.{first_surface};
-ghost use Rattle.plan.specs.Products.{LeavesWithin};
 ghost use Rattle.watching.specs.Published.{HasPublished};
 ghost use Rattle.watching.specs.Viewing.{IsAt};
 ghost use Rattle.run_writer.specs.RunText.{events_of};
+ghost use Rattle.run_writer.specs.Runs.{HasRun, MayRun};
 ghost use Rattle.run_writer.specs.Writing.{scene_of, Begins};
-ghost use Rattle.watch_run.specs.Runs.{HasRun, MayRun};
 ghost use Rattle.watch_run.specs.Seats.{AreLinesOf, AreSeats};
 
 use crew::Crew;
@@ -40,14 +36,15 @@ fn run_beside<R: Threads + Wait + Sync, O: Sink + Send, G: Gate>(
     rt: &R,
     gate: &G,
     task: &Task,
-    crew: &mut Crew,
-    writer: &mut Writer,
-    out: &mut O,
     publisher: &mut Publisher,
     viewers: &mut Vec<Viewer>,
     before: u32,
+    crew: &mut Crew,
+    writer: &mut Writer,
+    out: &mut O,
 ) -> Result<(), Stop>
     requires may { MayRun (scene_of task.now) crew.old }
+    requires limit { task.now.span.limit < 2 ^ 64 - 1 }
     requires begins { Begins task.now.span crew.old.start writer.old }
     requires published { HasPublished task.now.plan.now crew.old.start.sites [] publisher.old }
     requires viewers { All (IsAt publisher.old.writer.name 0 (before + 1)) viewers.old.items }
@@ -61,6 +58,7 @@ fn run_beside<R: Threads + Wait + Sync, O: Sink + Send, G: Gate>(
         rt,
         &mut || -> Result<(), Stop>
             requires may { MayRun (scene_of task.now) crew.now }
+            requires limit { task.now.span.limit < 2 ^ 64 - 1 }
             requires begins { Begins task.now.span crew.now.start writer.now }
             requires published { HasPublished task.now.plan.now crew.now.start.sites [] publisher.now }
         { write_rounds(rt, gate, task, crew, writer, out, publisher) },
@@ -100,19 +98,21 @@ fn show_run<R: Threads + Wait + Sync, O: Sink + Send, G: Gate>(
     gate: &G,
     alloc: Global,
     task: &Task,
-    crew: &mut Crew,
-    surface: Surface,
-    out: &mut O,
     publisher: &mut Publisher,
     readers: Vec<FrameReader>,
     frames: u32,
+    crew: &mut Crew,
+    surface: Surface,
+    out: &mut O,
 ) -> Result<Vec<u8>, Stop>
-    requires may { MayRun (scene_of task.now) crew.old }
-    requires start { crew.old.start ≡ surface }
     requires published { HasPublished task.now.plan.now crew.old.start.sites [] publisher.old }
     requires readers { All (λ r. r.writer ≡ publisher.old.writer.name) readers.items }
     requires kinds { length publisher.old.writer.name.start ≡ surface.species_count }
     requires frames { 1 ≤ frames }
+    requires may { MayRun (scene_of task.now) crew.old }
+    requires samples { task.now.span.samples ≤ 10000 }
+    requires limit { task.now.span.limit < 2 ^ 64 - 1 }
+    requires start { crew.old.start ≡ surface }
     ensures run { HasRun result (scene_of task.now) crew.old crew.new (O.written out.old) (O.written out.new) (O.faults out.old) (O.faults out.new) }
     ensures lines { IfOk result (λ lines. AreLinesOf (record { viewers = vec_len readers; frames = frames }) (scene_of task.now) crew.old.start.sites lines.items) }
 {
@@ -127,12 +127,12 @@ fn show_run<R: Threads + Wait + Sync, O: Sink + Send, G: Gate>(
         rt,
         gate,
         task,
-        crew,
-        &mut writer,
-        out,
         publisher,
         &mut viewers,
         before,
+        crew,
+        &mut writer,
+        out,
     ) {
         Ok(()) => last_lines(alloc, task, publisher, &mut viewers, before),
         Err(stop) => Err(stop),
@@ -147,23 +147,16 @@ pub fn run_watched<R: Threads + Wait + Sync, O: Sink + Send, G: Gate>(
     gate: &G,
     alloc: Global,
     task: &Task,
+    seats: Seats,
     crew: &mut Crew,
     surface: Surface,
-    seats: Seats,
     out: &mut O,
 ) -> Result<Vec<u8>, Stop>
-    requires lattice { surface.lattice ≡ task.now.plan.now.lattice }
-    requires species_count { surface.species_count ≡ length task.now.names.now }
-    requires species { All (LeavesWithin surface.species_count) task.now.plan.now.rules }
-    requires first { (cells : List SpeciesId) × (surface.sites ≡ first_surface cells) }
-    requires duration { task.now.span.until ≤ 10 ^ 15 }
+    requires seats { AreSeats seats }
+    requires may { MayRun (scene_of task.now) crew.old }
     requires samples { task.now.span.samples ≤ 10000 }
     requires limit { task.now.span.limit < 2 ^ 64 - 1 }
-    requires network { crew.old.network ≡ task.now.plan.now }
-    requires until { crew.old.until ≡ task.now.span.until }
     requires start { crew.old.start ≡ surface }
-    requires horizon { crew.old.horizon ≡ origin }
-    requires seats { AreSeats seats }
     ensures run { HasRun result (scene_of task.now) crew.old crew.new (O.written out.old) (O.written out.new) (O.faults out.old) (O.faults out.new) }
     ensures lines { IfOk result (λ lines. AreLinesOf seats (scene_of task.now) crew.old.start.sites lines.items) }
 {
@@ -176,12 +169,12 @@ pub fn run_watched<R: Threads + Wait + Sync, O: Sink + Send, G: Gate>(
         gate,
         alloc,
         task,
-        crew,
-        surface,
-        out,
         &mut publisher,
         readers,
         seats.frames,
+        crew,
+        surface,
+        out,
     );
     publisher.end(rt);
     run

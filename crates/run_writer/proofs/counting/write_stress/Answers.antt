@@ -1,6 +1,6 @@
-use Rattle.std.proofs.Common.{List, ap, ◌∙◌, subst}
-use Rattle.surf_kinds.specs.declared.site.SiteState.{SiteState}
+use Rattle.std.proofs.Common.{subst}
 use Rattle.surface_state.specs.SurfaceView.{SurfaceView}
+use Rattle.run_writer.specs.Counting.{GoesOn, counted_of}
 use Rattle.run_writer.specs.Crewed.{IsAlong}
 use Rattle.run_writer.specs.RunText.{start}
 use Rattle.run_writer.specs.Writing.{scene_of}
@@ -9,12 +9,11 @@ use Rattle.run_writer.proofs.Alike.{along_counted, first_goes_on}
 use Rattle.run_writer.proofs.counting.write_stress.Goals as goal
 
 pub count_rounds-requires-clause-goes_on : goal.count_rounds-requires-clause-goes_on
-count_rounds-requires-clause-goes_on g c lifetimes outlived = first_goes_on c.args.task.now.plan.now c.args.surface c.requires.first.0 c.requires.lattice c.requires.species c.requires.first.1
+count_rounds-requires-clause-goes_on g c lifetimes outlived =
+    subst (GoesOn c.args.task.now.plan.now) c.requires.start (first_goes_on (scene_of c.args.task.now) c.args.crew.now c.requires.may)
 
 pub count_rounds-requires-clause-along : goal.count_rounds-requires-clause-along
 count_rounds-requires-clause-along g c lifetimes outlived =
     let s = scene_of c.args.task.now in
-    let first = ap (λ (x : SurfaceView). x.sites) c.requires.start in
-    along_counted s c.args.crew.now (start s c.args.surface.sites)
-    (subst (λ (x : List SiteState). IsAlong s c.args.crew.now (start s x)) first
-    (along_first s c.args.crew.now c.requires.first.0 c.requires.network c.requires.until c.requires.horizon (first ∙ c.requires.first.1)))
+    subst (λ (x : SurfaceView). IsAlong s c.args.crew.now (counted_of x (record { events = 0; last = 0 }))) c.requires.start
+    (along_counted s c.args.crew.now (start s c.args.crew.now.start.sites) (along_first s c.args.crew.now c.requires.may))

@@ -1,17 +1,13 @@
-use Rattle.std.proofs.Common.{◌≡◌, ◌≤◌, length, refl, sym, ap, ◌∙◌, subst}
-use Rattle.std.specs.Prelude.{OnOk}
-use Rattle.std.specs.Global.{Global}
-use Rattle.std.specs.Prelude.{Vec}
-use Rattle.surf_kinds.specs.declared.site.SiteState.{SiteState}
+use Rattle.std.proofs.Common.{◌≡◌, sym, subst}
 use Rattle.surface_state.specs.SurfaceView.{SurfaceView}
-use Rattle.run_writer.specs.RunText.{Scene, events_of}
+use Rattle.run_writer.specs.RunText.{Scene}
 use Rattle.run_writer.specs.Writing.{scene}
 use Rattle.watch_run.specs.Seats.{AreLinesOf}
 use Rattle.surface_top.specs.Answer.{run_answer, scene_of}
-use Rattle.surface_top.specs.Crewed.{IsCrewFor, first_of}
-use Rattle.surface_top.specs.Ending.{Answered, run_ending}
+use Rattle.surface_top.specs.Crewed.{first_of}
+use Rattle.surface_top.specs.Ending.{Answered}
 use Rattle.surface_top.specs.Kept.{Asked, scene_by}
-use Rattle.surface_top.proofs.Leaving.{run_leaves, few_events}
+use Rattle.surface_top.proofs.Leaving.{run_leaves}
 use Rattle.surface_top.proofs.RunEnds.{run_answers, started_scene}
 use Rattle.surface_top.proofs.Watches.{shown_by}
 use Rattle.surface_top.proofs.watch.watch_manifest.Given.{Over}
@@ -24,22 +20,14 @@ pub returns-clause-answered : goal.returns-clause-answered
 returns-clause-answered g c =
     let m = c.args.manifest.now in
     let o = c.args.options in
-    let run = c.run_watched-run.ensures.run in
     subst (λ e. Answered (run_answer (scene_of o.seed o.until o.samples o.limit m) m) e (g.O.Sink.written c.args.out.now) (g.O.Sink.written c.run_watched-run.new.out) (g.O.Sink.faults c.args.out.now) (g.O.Sink.faults c.run_watched-run.new.out))
     (sym c.ending_with-ending.ensures.ending)
-    (run_answers c.run_watched-run.result _ _ _ _ _ _ _ _ (same_scene g c) (ap (λ (x : SurfaceView). x.sites) c.in-Ok.ensures.crew.start) run.limited run.text run.write)
+    (run_answers c.run_watched-run.result _ _ c.in-Ok.parts.2 c.run_watched-run.new.crew (first_of m) _ _ _ _ (same_scene g c) c.in-Ok.ensures.crew.start c.run_watched-run.ensures.run)
 
 pub returns-clause-kept : goal.returns-clause-kept
 returns-clause-kept g c =
-    let m = c.args.manifest.now in
-    let o = c.args.options in
-    let s : Scene = scene m.names c.in-Ok.parts.0 c.span_of.result in
-    let run = c.run_watched-run.ensures.run in
-    run_leaves c.run_watched-run.result (record { manifest = m; options = o }) s c.in-Ok.parts.2 c.run_watched-run.new.crew c.left_by.result c.ending_with-ending.result
-    (same_scene g c) (subst (λ (x : Scene). IsCrewFor x.network x.until (first_of m) o c.in-Ok.parts.2) (sym (same_scene g c)) c.in-Ok.ensures.crew) run.same run.finished
-    (subst (λ x. OnOk c.run_watched-run.result (length (events_of s x) ≤ 10000000)) (ap (λ (x : SurfaceView). x.sites) c.in-Ok.ensures.crew.start)
-    (few_events c.run_watched-run.result s c.in-Ok.parts.2.start.sites run.limited (subst (λ (x : Scene). x.limit ≤ 10000000) (sym (same_scene g c)) c.requires.bounds.limit)))
-    run.past c.left_by.ensures (c.ending_with-ending.ensures.ending ∙ ap (λ (x : Scene). run_ending x.limit c.run_watched-run.result) (sym (same_scene g c)))
+    run_leaves c.run_watched-run.result (record { manifest = c.args.manifest.now; options = c.args.options }) _ c.in-Ok.parts.2 c.run_watched-run.new.crew c.left_by.result c.ending_with-ending.result _ _
+    (same_scene g c) c.in-Ok.ensures.crew c.run_watched-run.ensures.run.ended c.requires.bounds.limit c.left_by.ensures c.ending_with-ending.ensures.ending
 
 pub returns-clause-shown : goal.returns-clause-shown
 returns-clause-shown g c =
