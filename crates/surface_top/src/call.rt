@@ -110,29 +110,6 @@ fn ensemble_job(workers: u64, seeds: u64, first: u64, until: Option<u64>, limit:
     })
 }
 
-/// A run with these options.
-fn run_job(
-    workers: u64,
-    seed: Option<u64>,
-    until: Option<u64>,
-    samples: u64,
-    limit: u64,
-    quota: u64,
-    slots: u64,
-) -> ManifestJob
-    ensures { result ≡ ManifestJob.Run (record { workers = workers; quota = quota; slots = slots; seed = seed; until = until; samples = samples; limit = limit }) }
-{
-    ManifestJob::Run(RunOptions {
-        workers,
-        quota,
-        slots,
-        seed,
-        until,
-        samples,
-        limit,
-    })
-}
-
 /// Reads a manifest and writes what the job makes of it. A run leaves its crew in `kept`.
 fn answer_manifest<R: Threads + Sync, O: Sink, G: Gate>(
     rt: &R,
@@ -221,11 +198,8 @@ fn answer_text<R: Threads + Sync, O: Sink, G: Gate>(
             quota,
             slots,
             ..
-        } => {
-            let job = run_job(workers, seed, until, samples, limit, quota, slots);
-            answer_manifest(rt, gate, alloc, text, job, kept, out)
         }
-        Words::Watch {
+        | Words::Watch {
             workers,
             seed,
             until,
@@ -235,8 +209,16 @@ fn answer_text<R: Threads + Sync, O: Sink, G: Gate>(
             slots,
             ..
         } => {
-            let job = run_job(workers, seed, until, samples, limit, quota, slots);
-            answer_manifest(rt, gate, alloc, text, job, kept, out)
+            let options = RunOptions {
+                workers,
+                quota,
+                slots,
+                seed,
+                until,
+                samples,
+                limit,
+            };
+            answer_manifest(rt, gate, alloc, text, ManifestJob::Run(options), kept, out)
         }
         Words::Ensemble {
             workers,

@@ -56,61 +56,24 @@ impl Command {
     pub(crate) fn has(self, option: OptionName) -> bool
         ensures { result ≡ has_option self option }
     {
-        match self {
-            Command::Check | Command::Print | Command::Bench => false,
-            Command::Run => match option {
-                OptionName::Workers
-                | OptionName::Seed
-                | OptionName::Until
-                | OptionName::Samples
-                | OptionName::Limit
-                | OptionName::Quota
-                | OptionName::Slots
-                | OptionName::Report => true,
-                OptionName::Inputs
-                | OptionName::Number
-                | OptionName::Seeds
-                | OptionName::First
-                | OptionName::Viewers
-                | OptionName::Frames => false,
-            },
-            Command::Compile | Command::Value | Command::Compact => {
-                matches!(option, OptionName::Inputs)
+        match option {
+            OptionName::Workers => matches!(
+                self,
+                Command::Run | Command::Stress | Command::Ensemble | Command::Watch
+            ),
+            OptionName::Until | OptionName::Limit => {
+                matches!(self, Command::Run | Command::Ensemble | Command::Watch)
             }
-            Command::Gen => matches!(option, OptionName::Number),
-            Command::Stress => matches!(option, OptionName::Workers | OptionName::Number),
-            Command::Ensemble => match option {
-                OptionName::Workers
-                | OptionName::Until
-                | OptionName::Limit
-                | OptionName::Seeds
-                | OptionName::First => true,
-                OptionName::Seed
-                | OptionName::Samples
-                | OptionName::Inputs
-                | OptionName::Number
-                | OptionName::Quota
-                | OptionName::Slots
-                | OptionName::Report
-                | OptionName::Viewers
-                | OptionName::Frames => false,
-            },
-            Command::Watch => match option {
-                OptionName::Workers
-                | OptionName::Seed
-                | OptionName::Until
-                | OptionName::Samples
-                | OptionName::Limit
-                | OptionName::Quota
-                | OptionName::Slots
-                | OptionName::Viewers
-                | OptionName::Frames => true,
-                OptionName::Inputs
-                | OptionName::Number
-                | OptionName::Seeds
-                | OptionName::First
-                | OptionName::Report => false,
-            },
+            OptionName::Seed | OptionName::Samples | OptionName::Quota | OptionName::Slots => {
+                matches!(self, Command::Run | Command::Watch)
+            }
+            OptionName::Inputs => {
+                matches!(self, Command::Compile | Command::Value | Command::Compact)
+            }
+            OptionName::Number => matches!(self, Command::Gen | Command::Stress),
+            OptionName::Seeds | OptionName::First => matches!(self, Command::Ensemble),
+            OptionName::Report => matches!(self, Command::Run),
+            OptionName::Viewers | OptionName::Frames => matches!(self, Command::Watch),
         }
     }
 }

@@ -25,16 +25,6 @@ returns-in-Value-clause-answered g c =
     rw c.in-Value.is (subst (λ (word : List ℕ). Answered (by_circuit (value_answer word) (circuit_in c.args.text.now)) c.answer_circuit-in-Value.result (g.O.Sink.written c.args.out.now) (g.O.Sink.written c.answer_circuit-in-Value.new.out) (g.O.Sink.faults c.args.out.now) (g.O.Sink.faults c.answer_circuit-in-Value.new.out))
     c.inputs-in-Value.ensures c.answer_circuit-in-Value.ensures)
 
-pub returns-in-Run-clause-answered : goal.returns-in-Run-clause-answered
-returns-in-Run-clause-answered g c =
-    rw c.in-Run.is (subst (λ (job : ManifestJob). Answered (by_manifest (manifest_answer job) (manifest_of c.args.text.now)) c.answer_manifest-in-Run.result (g.O.Sink.written c.args.out.now) (g.O.Sink.written c.answer_manifest-in-Run.new.out) (g.O.Sink.faults c.args.out.now) (g.O.Sink.faults c.answer_manifest-in-Run.new.out))
-    c.run_job-job.ensures c.answer_manifest-in-Run.ensures.answered)
-
-pub returns-in-Watch-clause-answered : goal.returns-in-Watch-clause-answered
-returns-in-Watch-clause-answered g c =
-    rw c.in-Watch.is (subst (λ (job : ManifestJob). Answered (by_manifest (manifest_answer job) (manifest_of c.args.text.now)) c.answer_manifest-in-Watch.result (g.O.Sink.written c.args.out.now) (g.O.Sink.written c.answer_manifest-in-Watch.new.out) (g.O.Sink.faults c.args.out.now) (g.O.Sink.faults c.answer_manifest-in-Watch.new.out))
-    c.run_job-job-in-Watch.ensures c.answer_manifest-in-Watch.ensures.answered)
-
 pub returns-in-Ensemble-clause-answered : goal.returns-in-Ensemble-clause-answered
 returns-in-Ensemble-clause-answered g c =
     rw c.in-Ensemble.is (subst (λ (job : ManifestJob). Answered (by_manifest (manifest_answer job) (manifest_of c.args.text.now)) c.answer_manifest-in-Ensemble.result (g.O.Sink.written c.args.out.now) (g.O.Sink.written c.answer_manifest-in-Ensemble.new.out) (g.O.Sink.faults c.args.out.now) (g.O.Sink.faults c.answer_manifest-in-Ensemble.new.out))
@@ -47,14 +37,6 @@ returns-in-Check-clause-kept g c =
 pub returns-in-Print-clause-kept : goal.returns-in-Print-clause-kept
 returns-in-Print-clause-kept g c =
     rw c.in-Print.is (subst (λ (a : Option Asked). Leaves c.answer_manifest-in-Print.result a c.answer_manifest-in-Print.new.kept) (none_read (run_by job.Print) (manifest_of c.args.text.now) (λ m. refl)) c.answer_manifest-in-Print.ensures.kept)
-
-pub returns-in-Run-clause-kept : goal.returns-in-Run-clause-kept
-returns-in-Run-clause-kept g c =
-    rw c.in-Run.is (subst (λ (j : ManifestJob). Leaves c.answer_manifest-in-Run.result (run_read (run_by j) (manifest_of c.args.text.now)) c.answer_manifest-in-Run.new.kept) c.run_job-job.ensures c.answer_manifest-in-Run.ensures.kept)
-
-pub returns-in-Watch-clause-kept : goal.returns-in-Watch-clause-kept
-returns-in-Watch-clause-kept g c =
-    rw c.in-Watch.is (subst (λ (j : ManifestJob). Leaves c.answer_manifest-in-Watch.result (run_read (run_by j) (manifest_of c.args.text.now)) c.answer_manifest-in-Watch.new.kept) c.run_job-job-in-Watch.ensures c.answer_manifest-in-Watch.ensures.kept)
 
 pub returns-in-Ensemble-clause-kept : goal.returns-in-Ensemble-clause-kept
 returns-in-Ensemble-clause-kept g c =

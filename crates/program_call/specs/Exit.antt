@@ -2,8 +2,8 @@
 use Rattle.std.specs.Prelude.{ℕ}
 use Rattle.std.specs.declared.io.ErrorKind.{ErrorKind}
 use Rattle.std.specs.declared.io.ErrorKind.TheVariants.{OutOfMemory}
-use Rattle.program_words.specs.declared.words.NoWords.{NoWords}
-use Rattle.program_words.specs.declared.words.NoWords.TheVariants.{Memory, NotText}
+use Rattle.program_call.specs.declared.words.NoWords.{NoWords}
+use Rattle.program_call.specs.declared.words.NoWords.TheVariants.{Memory, NotText}
 
 -- why the system gave no words, by the kind of its error
 abbrev pub no_words : ErrorKind → NoWords

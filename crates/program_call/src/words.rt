@@ -1,7 +1,7 @@
 //! The words that the system has for a program, or why it has none.
 
 ghost use Rattle.std.specs.Prelude.{◌≡◌, drop};
-ghost use Rattle.program_words.specs.Exit.{no_words, no_words_code};
+ghost use Rattle.program_call.specs.Exit.{no_words, no_words_code};
 
 use std::alloc::{Alloc, Global};
 use std::env::{self, Env};
@@ -39,7 +39,7 @@ impl NoWords {
 }
 
 /// The words of the command line, of which the first is the name of the program.
-pub fn given_words<R: Env + Alloc<A = Global>>(rt: &R) -> Result<Vec<String>, NoWords> {
+pub(crate) fn given_words<R: Env + Alloc<A = Global>>(rt: &R) -> Result<Vec<String>, NoWords> {
     let given = match env::args(rt) {
         Ok(given) => given,
         Err(error) => return Err(NoWords::of(error.kind())),
@@ -54,7 +54,7 @@ pub fn given_words<R: Env + Alloc<A = Global>>(rt: &R) -> Result<Vec<String>, No
 }
 
 /// The words behind the name of the program.
-pub fn words_behind_name(words: &[String]) -> &[String]
+pub(crate) fn words_behind_name(words: &[String]) -> &[String]
     ensures { result.now ≡ drop 1 words.now }
 {
     match words.split_first() {
