@@ -1,12 +1,14 @@
 //! Faults of the outside at each call, and want of memory at each place.
 
-use crate::calls::{NARROW, OPEN, Outside, call, compare, expect, written};
+ghost use Rattle.std.specs.Prelude.{◌≡◌};
+
+use crate::calls::{Answered, NARROW, OPEN, Outside, call, compare, expect, written};
 use crate::rows::{ANSWERED, CATALYST, CATALYST_RUN, REFUSED, Row, XOR};
 use std::alloc::Global;
 use std::process::Abort;
 use std::test::Fail;
 use std::thread::Threads;
-use surf_kinds::Status;
+use surf_kinds::{NoMemory, Status};
 
 #[test]
 fn a_fault_of_the_notes_is_one_where_the_answer_is_in_them(rt: HostRuntime) -> Result<(), Fail> {
@@ -40,7 +42,7 @@ fn a_fault_of_the_notes_is_one_where_the_answer_is_in_them(rt: HostRuntime) -> R
 
 /// An outside that reads a byte and writes so many at once, and whose read or write of a number fails, by the status of such
 /// a fault.
-pub(crate) fn failing(status: Status, number: u64, writes: usize) -> Outside {
+fn failing(status: Status, number: u64, writes: usize) -> Outside {
     let outside = Outside {
         reads: 1,
         writes,
@@ -60,7 +62,38 @@ pub(crate) fn failing(status: Status, number: u64, writes: usize) -> Outside {
 
 /// Lets each read or each write fail in turn, and sees what is left: after a failed read nothing, and after a failed write no
 /// more of the answer than the writes before it took. Gives how many reads or writes there are.
-fn every_call_fails<R: Threads + Sync + Abort>(
+pub(crate) fn every_call_fails<R: Abort, F: Fn(Outside) -> Result<Answered, NoMemory>>(
+    rt: &R,
+    line: &str,
+    whole: &[u8],
+    status: Status,
+    writes: usize,
+    answer: F,
+) -> Result<u64, Fail>
+    requires { (state : F) (outside : _) → F.pre state outside }
+{
+    for number in 1..10_000 {
+        let got = answer(failing(status, number, writes))?;
+        let out = got.out.bytes();
+        let before = number.saturating_sub(1);
+        if got.status == Status::Done {
+            expect(rt, out == whole, line);
+            return Ok(before);
+        }
+        let (message, faults, most) = match status {
+            Status::ReadFault => ("read fault\n", 0, 0),
+            _ => ("write fault\n", 1, before.saturating_mul(writes as u64)),
+        };
+        compare(rt, line, &got, status, out, message.as_bytes());
+        expect(rt, whole.starts_with(out), line);
+        expect(rt, out.len() as u64 <= most, line);
+        expect(rt, got.out.faults() == faults, line);
+    }
+    Err("too many calls".into())
+}
+
+/// Lets each read or each write of a command fail.
+fn every_call_of_a_command_fails<R: Threads + Sync + Abort>(
     rt: &R,
     alloc: Global,
     line: &str,
@@ -69,25 +102,12 @@ fn every_call_fails<R: Threads + Sync + Abort>(
     writes: usize,
 ) -> Result<u64, Fail> {
     let whole = written(rt, alloc, line, text)?;
-    for number in 1..10_000 {
-        let outside = failing(status, number, writes);
+    every_call_fails(rt, line, whole.as_bytes(), status, writes, |outside| {
         let got = call(rt, alloc, line, text.as_bytes(), outside)?;
-        let before = number.saturating_sub(1);
-        if got.status == Status::Done {
-            compare(rt, line, &got, Status::Done, whole.as_bytes(), b"");
-            return Ok(before);
-        }
-        let (message, faults, most) = match status {
-            Status::ReadFault => ("read fault\n", 0, 0),
-            _ => ("write fault\n", 1, before.saturating_mul(writes as u64)),
-        };
-        let out = got.out.bytes();
-        compare(rt, line, &got, status, out, message.as_bytes());
-        expect(rt, whole.as_bytes().starts_with(out), line);
-        expect(rt, out.len() as u64 <= most, line);
-        expect(rt, got.out.faults() == faults, line);
-    }
-    Err("too many calls".into())
+        let is_done = got.status == Status::Done;
+        expect(rt, got.notes.bytes().is_empty() == is_done, line);
+        Ok(got)
+    })
 }
 
 #[test]
@@ -96,12 +116,12 @@ fn each_call_of_the_outside_may_fail(rt: HostRuntime) -> Result<(), Fail> {
     let compile = "compile --inputs 10";
     for (line, text) in [("run", CATALYST), (compile, XOR)] {
         // A byte a call, and the one that finds the end.
-        let reads = every_call_fails(&rt, alloc, line, text, Status::ReadFault, 65_536)?;
+        let reads = every_call_of_a_command_fails(&rt, alloc, line, text, Status::ReadFault, 65_536)?;
         expect(&rt, reads == text.len() as u64 + 1, line);
     }
-    let writes = every_call_fails(&rt, alloc, "run", CATALYST, Status::WriteFault, 1)?;
+    let writes = every_call_of_a_command_fails(&rt, alloc, "run", CATALYST, Status::WriteFault, 1)?;
     expect(&rt, writes == 103, "run");
-    let writes = every_call_fails(&rt, alloc, compile, XOR, Status::WriteFault, 16)?;
+    let writes = every_call_of_a_command_fails(&rt, alloc, compile, XOR, Status::WriteFault, 16)?;
     expect(&rt, writes > 114, compile);
     Ok(())
 }

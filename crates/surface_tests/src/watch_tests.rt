@@ -1,7 +1,7 @@
 //! Watches over memory, and what the lines of their viewers say.
 
 use crate::calls::{Answered, OPEN, Outside, compare, expect, words_of};
-use crate::fault_tests::failing;
+use crate::fault_tests::every_call_fails;
 use crate::rows::{CATALYST, CATALYST_RUN};
 use std::alloc::Global;
 use std::process::Abort;
@@ -176,46 +176,28 @@ fn notes_that_fail_end_a_watch(rt: HostRuntime) -> Result<(), Fail> {
     Ok(())
 }
 
-/// Lets each read or each write of a watch fail in turn, and sees that no more of the run is left than the writes before it
-/// took, and no crew. Gives how many reads or writes there are.
-fn every_call_fails<R: Threads + Wait + Sync + Abort>(
+/// Lets each read or each write of a watch fail, and sees that it has a crew where none did. Gives how many there are.
+fn every_call_of_a_watch_fails<R: Threads + Wait + Sync + Abort>(
     rt: &R,
     alloc: Global,
     status: Status,
 ) -> Result<u64, Fail> {
     let line = "watch --frames 1";
-    for number in 1..10_000 {
-        let seen = watch(
-            rt,
-            &OpenGate,
-            alloc,
-            line,
-            CATALYST,
-            failing(status, number, 1),
-        )?;
-        let before = number.saturating_sub(1);
-        if seen.answered.status == Status::Done {
-            return Ok(before);
-        }
-        let (message, most) = match status {
-            Status::ReadFault => ("read fault\n", 0),
-            _ => ("write fault\n", before),
-        };
-        let out = seen.answered.out.bytes();
-        compare(rt, line, &seen.answered, status, out, message.as_bytes());
-        expect(rt, CATALYST_RUN.as_bytes().starts_with(out), line);
-        expect(rt, out.len() as u64 <= most, line);
-        expect(rt, !seen.has_crew, line);
-    }
-    Err("too many calls".into())
+    let whole = CATALYST_RUN.as_bytes();
+    every_call_fails(rt, line, whole, status, 1, |outside| {
+        let seen = watch(rt, &OpenGate, alloc, line, CATALYST, outside)?;
+        let is_done = seen.answered.status == Status::Done;
+        expect(rt, seen.has_crew == is_done, line);
+        Ok(seen.answered)
+    })
 }
 
 #[test]
 fn each_call_of_the_outside_of_a_watch_may_fail(rt: HostRuntime) -> Result<(), Fail> {
     let alloc = rt.alloc();
-    let reads = every_call_fails(&rt, alloc, Status::ReadFault)?;
+    let reads = every_call_of_a_watch_fails(&rt, alloc, Status::ReadFault)?;
     expect(&rt, reads == CATALYST.len() as u64 + 1, "reads");
-    let writes = every_call_fails(&rt, alloc, Status::WriteFault)?;
+    let writes = every_call_of_a_watch_fails(&rt, alloc, Status::WriteFault)?;
     expect(&rt, writes == 103, "writes");
     Ok(())
 }
