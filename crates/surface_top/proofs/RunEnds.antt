@@ -1,6 +1,6 @@
 -- How a call ends after a run.
-use Rattle.std.proofs.Common.{rules, ◌≡◌, ℕ, Bool, true, false, cond, List, [], ◌∷◌, ◌++◌, length, Option, refl, ap, ◌∙◌, subst, arith}
-use Rattle.std.specs.Prelude.{Result, Ok, Err, nat_lt, unwrap_or, IsErrOf, ◌≢◌, ◌==◌}
+use Rattle.std.proofs.Common.{rules, ◌≡◌, ℕ, Bool, true, false, cond, List, [], ◌∷◌, ◌++◌, length, Option, refl, sym, ap, ◌∙◌, subst, arith}
+use Rattle.std.specs.Prelude.{All, Result, Ok, Err, nat_lt, unwrap_or, IsErrOf, ◌≢◌, ◌==◌}
 use Rattle.surf_kinds.specs.declared.event.Event.{Event}
 use Rattle.std.proofs.lemmas.Bool.Decides.{nat_tests}
 use Rattle.std.specs.Io.KnownBytes.{Appends}
@@ -11,12 +11,16 @@ use Rattle.run_writer.specs.declared.pages.Stop.{Stop}
 use Rattle.run_writer.specs.declared.pages.Stop.TheVariants as stop
 use Rattle.surface_top.specs.declared.ending.Ending.TheVariants as ending
 use Rattle.manifest_read.specs.declared.manifest.Manifest.{Manifest}
+use Rattle.surf_kinds.specs.declared.rule.Rule.{Rule}
+use Rattle.surf_kinds.specs.declared.rule.Rule.TheVariants.{One, Two}
+use Rattle.manifest_read.specs.Sound.{IsKnownRule, IsSound}
 use Rattle.plan.specs.Network.{Network}
+use Rattle.plan.specs.Products.{LeavesWithin}
 use Rattle.surface_state.specs.SurfaceView.{SurfaceView}
 use Rattle.crew.specs.Crews.{CrewView}
 use Rattle.run_writer.specs.declared.writer.Span.{Span}
 use Rattle.surface_top.specs.declared.run.RunOptions.{RunOptions}
-use Rattle.surface_top.specs.Crewed.{network_of}
+use Rattle.surface_top.specs.Crewed.{network_of, first_of}
 use Rattle.surface_top.specs.Answer.{Answer, Text, EventLimit, scene_of}
 use Rattle.surface_top.specs.Ending.{Answered, run_ending}
 use Rattle.trace_text.specs.Lines.{event_text, end_text, limit_text}
@@ -113,3 +117,14 @@ scene_is m plan seed until samples limit s u p is iu =
 pub started_scene : (m : Manifest) (o : RunOptions) (plan : Network) (span : Span) → plan ≡ network_of (unwrap_or o.seed m.seed) m → span ≡ record { until = unwrap_or o.until m.until; samples = o.samples; limit = o.limit } → scene m.names plan span ≡ scene_of o.seed o.until o.samples o.limit m
 started_scene m o plan span p is =
     ap (scene m.names plan) is ∙ scene_is m plan o.seed o.until o.samples o.limit (unwrap_or o.seed m.seed) (unwrap_or o.until m.until) p refl refl
+
+-- the rules of a sound manifest leave species that the first surface knows
+
+known_leaves : (count : ℕ) (r : Rule) → IsKnownRule count r → LeavesWithin count r
+known_leaves count (One rate a c) known = known.1
+known_leaves count (Two rate a b c d) known = (known.2, known.3)
+
+pub started_leaves : (m : Manifest) (seed : ℕ) (plan : Network) (first : SurfaceView) → IsSound m → plan ≡ network_of seed m → first ≡ first_of m → All (LeavesWithin first.species_count) plan.rules
+started_leaves m seed plan first sound same_plan same_first =
+    subst (λ (x : Network). All (LeavesWithin first.species_count) x.rules) (sym same_plan)
+    (subst (λ (x : SurfaceView). All (LeavesWithin x.species_count) m.rules) (sym same_first) (λ k d inside. known_leaves (length m.names) _ (sound.rules k d inside)))

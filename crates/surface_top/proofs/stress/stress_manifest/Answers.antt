@@ -1,4 +1,4 @@
-use Rattle.std.proofs.Common.{◌≡◌, arith, refl, sym, ap, ◌∙◌, subst}
+use Rattle.std.proofs.Common.{rules, ◌≡◌, arith, refl, sym, ap, ◌∙◌, subst}
 use Rattle.std.specs.Prelude.{unwrap_or}
 use Rattle.surface_top.specs.declared.run.RunOptions.{RunOptions}
 use Rattle.surface_top.specs.Answer.{stress_answer, stress_scene, scene_of}
@@ -7,7 +7,7 @@ use Rattle.surface_top.specs.Ending.{Answered}
 use Rattle.surface_top.specs.Kept.{stress_options, IsCrewOf}
 use Rattle.run_writer.specs.Writing.{scene}
 use Rattle.surface_top.proofs.Leaving.{run_leaves}
-use Rattle.surface_top.proofs.RunEnds.{scene_is}
+use Rattle.surface_top.proofs.RunEnds.{scene_is, started_leaves}
 use Rattle.surface_top.proofs.Stressing.{stress_answers}
 use Rattle.surface_top.proofs.stress.stress_manifest.Given.{Over}
 use Rattle.surface_top.proofs.stress.stress_manifest.Goals as goal
@@ -19,6 +19,18 @@ same_scene g c =
     ap (scene m.names c.in-Ok.parts.0) c.span_of.ensures
     ∙ (scene_is m c.in-Ok.parts.0 o.seed o.until o.samples o.limit (unwrap_or o.seed m.seed) (unwrap_or o.until m.until) c.in-Ok.ensures.plan refl refl
     ∙ ap (λ (x : RunOptions). scene_of x.seed x.until x.samples x.limit m) c.stress_options-options.ensures)
+
+pub write_stress-run-requires-clause-may : goal.write_stress-run-requires-clause-may
+write_stress-run-requires-clause-may g c lifetimes outlived = record {
+  lattice = search rules;
+  species_count = search rules;
+  species = started_leaves c.args.manifest.now _ c.in-Ok.parts.0 c.in-Ok.parts.2.start c.requires.sound c.in-Ok.ensures.plan c.in-Ok.ensures.crew.start;
+  first = search rules;
+  duration = search rules;
+  network = search rules;
+  until = search rules;
+  horizon = search rules;
+}
 
 pub returns-clause-answered : goal.returns-clause-answered
 returns-clause-answered g c =
