@@ -1,4 +1,4 @@
-use Rattle.std.proofs.Common.{◌≡◌, ℕ, List, Option, None, refl, sym, subst}
+use Rattle.std.proofs.Common.{◌≡◌, ◌⊎◌, inl, inr, ℕ, List, Option, None, refl, sym, subst}
 use Rattle.circuit_text.specs.Circuits.{circuit_in}
 use Rattle.manifest_read.specs.Manifest.{manifest_of}
 use Rattle.surface_top.specs.declared.call.ManifestJob.{ManifestJob}
@@ -24,6 +24,14 @@ pub returns-in-Value-clause-answered : goal.returns-in-Value-clause-answered
 returns-in-Value-clause-answered g c =
     rw c.in-Value.is (subst (λ (word : List ℕ). Answered (by_circuit (value_answer word) (circuit_in c.args.text.now)) c.answer_circuit-in-Value.result (g.O.Sink.written c.args.out.now) (g.O.Sink.written c.answer_circuit-in-Value.new.out) (g.O.Sink.faults c.args.out.now) (g.O.Sink.faults c.answer_circuit-in-Value.new.out))
     c.inputs-in-Value.ensures c.answer_circuit-in-Value.ensures)
+
+-- a run, or one before viewers
+either : {A B C : Type 0} → (A → C) → (B → C) → A ⊎ B → C
+either f g (inl a) = f a
+either f g (inr b) = g b
+
+pub returns-in-Run-clause-answered : goal.returns-in-Run-clause-answered
+returns-in-Run-clause-answered g c = either (λ run. rw run.1 c.answer_manifest-in-Run.ensures.answered) (λ watch. rw watch.2 c.answer_manifest-in-Run.ensures.answered) c.in-Run.is
 
 pub returns-in-Ensemble-clause-answered : goal.returns-in-Ensemble-clause-answered
 returns-in-Ensemble-clause-answered g c =
