@@ -116,7 +116,14 @@ fn each_call_of_the_outside_may_fail(rt: HostRuntime) -> Result<(), Fail> {
     let compile = "compile --inputs 10";
     for (line, text) in [("run", CATALYST), (compile, XOR)] {
         // A byte a call, and the one that finds the end.
-        let reads = every_call_of_a_command_fails(&rt, alloc, line, text, Status::ReadFault, 65_536)?;
+        let reads = every_call_of_a_command_fails(
+            &rt,
+            alloc,
+            line,
+            text,
+            Status::ReadFault,
+            65_536,
+        )?;
         expect(&rt, reads == text.len() as u64 + 1, line);
     }
     let writes = every_call_of_a_command_fails(&rt, alloc, "run", CATALYST, Status::WriteFault, 1)?;
