@@ -1,4 +1,5 @@
 mod Squarings
 mod Bounds
+mod Near
 pub mod LawLemmas
 mod Vectors

@@ -10,8 +10,9 @@
 
 pub mod laws;
 
-ghost use Rattle.std.specs.Prelude.{◌≡◌, ◌<◌, ◌≤◌, ◌^◌, ◌+◌, ◌/◌};
-ghost use Rattle.fixed_log.specs.Log.{next_bit, next_x, fixed_log_of, energy_of};
+ghost use Rattle.std.specs.Prelude.{◌≡◌, ◌<◌, ◌≤◌, ◌^◌, ◌+◌, ◌-◌, ◌*◌, ◌/◌};
+ghost use Rattle.fixed_log.specs.Log.{next_bit, next_x, bits_after, squared, fixed_log_of, energy_of};
+ghost use Rattle.fixed_log.specs.Near.{IsNear};
 
 /// 2^32 times the binary logarithm of `m`, for `m` from 1 to 2^64. At most 2^38.
 #[inline]
@@ -24,14 +25,69 @@ pub fn log2_fixed(m: u128) -> u64
     ensures at_most { result ≤ 2 ^ 38 }
 {
     let whole = m.ilog2();
-    let mut x = ((m << 63) >> whole) as u64;
+    let x = ((m << 63) >> whole) as u64;
+    (u64::from(whole) << 32) + fraction(x)
+}
+
+// The 32 bits of the fraction, where x is between 2^63 and 2^64. The quick estimate lies so near to x raised to the power of
+// 2^32 that its bits are those of the definition, but for about one number in 300,000, near a power of two.
+#[inline]
+fn fraction(x: u64) -> u64
+    requires { 2 ^ 63 ≤ x }
+    ensures value { result ≡ bits_after x 32 }
+    ensures fits { result < 2 ^ 32 }
+{
+    let (bits, left) = estimate(x);
+    if left >= (1 << 63) + (1 << 33) && left < u64::MAX - (1 << 45) {
+        bits
+    } else {
+        squared_out(x)
+    }
+}
+
+// The bits by eight rounds of four squarings, and what is left of the power. A round moves its power back to between 2^63
+// and 2^64 once, where the definition does so after each squaring, so that it loses more of its lowest bits.
+#[inline]
+fn estimate(first: u64) -> (u64, u64)
+    requires { 2 ^ 63 ≤ first }
+    ensures near { IsNear (squared first 32) (63 * (2 ^ 32 - 1) + result.0) result.1 (2 ^ 63 - 2 ^ 44) }
+    ensures fits { result.0 < 2 ^ 32 }
+{
+    let mut x = first;
+    let mut bits: u64 = 0;
+    for _ in 0..8u32 {
+        let power = upper_square(upper_square(upper_square(upper_square(x))));
+        let whole = power.ilog2();
+        bits = 16 * bits + u64::from(whole - 48);
+        x = power << (63 - whole);
+    }
+    (bits, x)
+}
+
+// The upper 64 bits of x squared.
+#[inline]
+fn upper_square(x: u64) -> u64
+    ensures { result ≡ x * x / 2 ^ 64 }
+{
+    ((u128::from(x) * u128::from(x)) >> 64) as u64
+}
+
+// The bits by the 32 squarings of the definition.
+#[cold]
+#[inline(never)]
+fn squared_out(first: u64) -> u64
+    requires { 2 ^ 63 ≤ first }
+    ensures value { result ≡ bits_after first 32 }
+    ensures fits { result < 2 ^ 32 }
+{
+    let mut x = first;
     let mut bits: u64 = 0;
     for _ in 0..32u32 {
         let (bit, next) = squared_once(x);
         bits = 2 * bits + bit;
         x = next;
     }
-    (u64::from(whole) << 32) + bits
+    bits
 }
 
 // The bit of one squaring, and the x after it. There is no branch on the bit, which is as good as random: a

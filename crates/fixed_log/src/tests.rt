@@ -4,6 +4,7 @@ use super::*;
 fn logarithms(rt: HostRuntime) {
     assert_eq!(rt; log2_fixed(1), 0);
     assert_eq!(rt; log2_fixed(2), 4_294_967_296);
+    assert_eq!(rt; log2_fixed(3), 6_807_362_105);
     assert_eq!(rt; log2_fixed((1 << 64) - 1), 274_877_906_943);
     assert_eq!(rt; log2_fixed(1 << 64), 274_877_906_944);
 }
