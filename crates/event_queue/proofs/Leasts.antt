@@ -1,14 +1,16 @@
--- The earliest of the kept events, and the entry at the top of the heap.
-use Rattle.std.proofs.Common.{◌≡◌, ℕ, zero, suc, ◌+◌, ◌-◌, ◌<◌, Bool, true, false, List, length, refl, sym, ap, ◌∙◌, arith, cond, slice_index_or, slice_index, Option, Some, None}
+-- The earliest of the kept events, and the winner of the two halves.
+use Rattle.std.proofs.Common.{◌≡◌, ℕ, zero, suc, ◌+◌, ◌-◌, ◌%◌, ◌<◌, ◌^◌, ◌⊎◌, Bool, true, false, List, length, refl, sym, ap, ◌∙◌, subst, arith, cond, slice_index_or, Option, Some, None}
+use Rattle.std.specs.Prelude.{MatchOption}
 use Rattle.surf_kinds.specs.Keys.{is_earlier, earlier}
 use Rattle.surf_kinds.specs.declared.event.Event.{Event}
 use Rattle.event_queue.specs.declared.entry.Entry.{Entry}
-use Rattle.event_queue.specs.QueueView.{IsLeast, IsEmpty, least_among}
-use Rattle.event_queue.specs.Heap.{entry_at, IsSound, event_of, seen}
+use Rattle.event_queue.specs.QueueView.{QueueView, IsLeast, IsEmpty, least_among}
+use Rattle.event_queue.specs.Tournament.{entry_at, nothing, precedes, event_of, IsWinner}
+use Rattle.event_queue.specs.Halves.{number_of, low_offset, high_offset, standing, event_if, seen, MayStand, IsSound}
 use Rattle.event_queue.proofs.Order.{same_or}
-use Rattle.event_queue.proofs.Orders.{top_first, is_earlier-event_of, same_place}
-use Rattle.event_queue.proofs.Seen.{seen_in, seen_out, seen_past, seen_some, length-seen}
-use Rattle.std.proofs.lemmas.Bool.{cases_lt}
+use Rattle.event_queue.proofs.Orders.{not_before_by, before_nothing, is_earlier-event_of, same_place}
+use Rattle.event_queue.proofs.Halves.{number_within, low_number, low_side, high_number, high_side, standing_low, standing_high, event_if_nothing, event_if_some, length-seen, seen_at, seen_past}
+use Rattle.std.proofs.lemmas.Bool.{cases_lt, both_ways}
 use Rattle.std.proofs.lemmas.Option.{none-some, same_Some}
 use mathlib.Core.Logic.{⊎_elim}
 
@@ -61,46 +63,106 @@ least_among-some xs (suc n) e k l at none_before alone = same_or k n
     let before : k < n = omega (arith, ne) in
     ap (λ o. earlier o (slice_index_or xs n None)) (least_among-some xs n e k before at none_before alone) ∙ earlier_first e (slice_index_or xs n None) (λ m s. none_before n m s))
 
-module _ (first : ℕ) (h : List Entry) (room : ℕ) (p : List ℕ) (sound : IsSound first h room p) where
-  pub none_kept : length h ≡ 0 → IsEmpty (seen first h (length h) p)
-  none_kept z k = ⊎_elim (λ l. seen_out first h (length h) p k l (omega arith)) (λ l. seen_past first h (length h) p k l) (cases_lt k (length p))
+-- e is the entry of an event, at an offset
+record IsEntry (count : ℕ) (low high : List Entry) (o : ℕ) (e : Entry) : Type 0 where
+  stands : standing low high o ≡ e
+  own : e.offset ≡ o
+  within : o < count
+  early : e.time < 18446744073709551616
 
-  pub top_is_least : 0 < length h → IsLeast (seen first h (length h) p) (event_of first (entry_at h 0))
-  top_is_least pos = record {
-    has_place = (omega arith, let z = length-seen first h (length h) p in let y = within in omega arith);
-    is_kept = ap (λ k. slice_index_or (seen first h (length h) p).events k None) back ∙ at_top;
-    none_before = λ k f s.
-        let r = seen_some first h (length h) p k f s in
-        ap (λ e. is_earlier e (event_of first (entry_at h 0))) (sym r.2) ∙ is_earlier-event_of first (entry_at h (slice_index p k)) (entry_at h 0) ∙ top_first h (length h) (slice_index p k) sound.ordered r.1;
-  }
+-- what may stand at an offset, as a step by cases
+by_entry : {P : Type 0} (count : ℕ) (low high : List Entry) (o : ℕ) → MayStand count o (standing low high o) → (standing low high o ≡ nothing → P) → (IsEntry count low high o (standing low high o) → P) → P
+by_entry count low high o may none some = ⊎_elim none (λ r. some (record { stands = refl; own = r.0; within = r.1; early = r.2 })) may
+
+module _ (first count : ℕ) (low high : List Entry) (sound : IsSound first count low high) where
+  -- an event that is seen is that of an entry at its offset
+  seen_some : (k : ℕ) (f : Event) → slice_index_or (seen first count low high).events k None ≡ Some f → (IsEntry count low high k (standing low high k)) × (event_of first (standing low high k) ≡ f)
+  seen_some k f e = ⊎_elim
+      (λ l. by_entry count low high k (sound.own k)
+      (λ none. absurd (none-some f (sym (seen_at first count low high k None l ∙ event_if_nothing first (standing low high k) none) ∙ e)))
+      (λ r. (r, same_Some (event_of first (standing low high k)) f (sym (seen_at first count low high k None l ∙ event_if_some first (standing low high k) (omega (arith, r.own, r.within, sound.few))) ∙ e))))
+      (λ past. absurd (none-some f (sym (seen_past first count low high k past) ∙ e)))
+      (cases_lt k count)
+
+  -- the winner of a half is nothing, or the entry of an event
+  low_entry : {P : Type 0} (e : Entry) → IsWinner low e → (e ≡ nothing → P) → ((o : ℕ) → IsEntry count low high o e → P) → P
+  low_entry {P} e w none some = ⊎_elim none (λ r. at r.0 r.2) w.among
     where
-      some_entry : 0 < length h
-      some_entry = pos
+      at : (i : ℕ) → entry_at low i ≡ e → P
+      at i is =
+          let here : standing low high (low_offset i) ≡ e = standing_low low high (low_offset i) (low_side i) ∙ ap (entry_at low) (low_number i) ∙ is in
+          by_entry count low high (low_offset i) (sound.own (low_offset i)) (λ n. none (sym here ∙ n)) (λ r. some (low_offset i) (subst (IsEntry count low high (low_offset i)) here r))
 
-      within : (entry_at h 0).offset < length p
-      within = sound.inverse.offset_within 0 some_entry
-
-      back : (first + (entry_at h 0).offset) - first ≡ (entry_at h 0).offset
-      back = omega arith
-
-      at_top : slice_index_or (seen first h (length h) p).events (entry_at h 0).offset None ≡ Some (event_of first (entry_at h 0))
-      at_top =
-          let z = sound.inverse.position_of 0 some_entry in
-          seen_in first h (length h) p (entry_at h 0).offset within (omega arith) ∙ ap (λ k. Some (event_of first (entry_at h k))) z
-
-  pub top_is_earliest : 0 < length h → Some (event_of first (entry_at h 0)) ≡ least_among (seen first h (length h) p).events (length (seen first h (length h) p).events)
-  top_is_earliest pos = sym (least_among-some (seen first h (length h) p).events (length (seen first h (length h) p).events) (event_of first (entry_at h 0)) ((first + (entry_at h 0).offset) - first) inside least.is_kept least.none_before alone)
+  high_entry : {P : Type 0} (e : Entry) → IsWinner high e → (e ≡ nothing → P) → ((o : ℕ) → IsEntry count low high o e → P) → P
+  high_entry {P} e w none some = ⊎_elim none (λ r. at r.0 r.2) w.among
     where
-      inside : (first + (entry_at h 0).offset) - first < length (seen first h (length h) p).events
-      inside = let z = length-seen first h (length h) p in let y = sound.inverse.offset_within 0 (omega arith) in omega arith
+      at : (i : ℕ) → entry_at high i ≡ e → P
+      at i is =
+          let here : standing low high (high_offset i) ≡ e = standing_high low high (high_offset i) (high_side i) ∙ ap (entry_at high) (high_number i) ∙ is in
+          by_entry count low high (high_offset i) (sound.own (high_offset i)) (λ n. none (sym here ∙ n)) (λ r. some (high_offset i) (subst (IsEntry count low high (high_offset i)) here r))
 
-      least : IsLeast (seen first h (length h) p) (event_of first (entry_at h 0))
-      least = top_is_least pos
+  -- the lesser of the winners of both halves
+  module _ (l h e : Entry) (low_wins : IsWinner low l) (high_wins : IsWinner high h) (one : (e ≡ l) ⊎ (e ≡ h)) (not_low : precedes l e ≡ false) (not_high : precedes h e ≡ false) where
+    entry : {P : Type 0} → (e ≡ nothing → P) → ((o : ℕ) → IsEntry count low high o e → P) → P
+    entry none some = ⊎_elim
+        (λ is. low_entry l low_wins (λ n. none (is ∙ n)) (λ o r. some o (subst (IsEntry count low high o) (sym is) r)))
+        (λ is. high_entry h high_wins (λ n. none (is ∙ n)) (λ o r. some o (subst (IsEntry count low high o) (sym is) r)))
+        one
 
-      alone : (j : ℕ) (f : Event) → slice_index_or (seen first h (length h) p).events j None ≡ Some f → is_earlier (event_of first (entry_at h 0)) f ≡ false → f ≡ event_of first (entry_at h 0)
-      alone j f s not =
-          let r = seen_some first h (length h) p j f s in
-          let at : f.place.0 ≡ first + j = ap (λ (v : Event). v.place.0) (sym r.2) ∙ ap (λ k. first + k) (sound.inverse.offset_of j r.0 r.1) in
-          let same : f.place.0 ≡ first + (entry_at h 0).offset = same_place f (event_of first (entry_at h 0)) (least.none_before j f s) not in
-          let here : j ≡ (first + (entry_at h 0).offset) - first = omega arith in
-          same_Some f (event_of first (entry_at h 0)) (sym s ∙ ap (λ k. slice_index_or (seen first h (length h) p).events k None) here ∙ least.is_kept)
+    none_earlier : (o : ℕ) → o < count → precedes (standing low high o) e ≡ false
+    none_earlier o within = ⊎_elim
+        (λ s. ap (λ x. precedes x e) (standing_low low high o s)
+        ∙ not_before_by (entry_at low (number_of o)) l e (low_wins.none_before (number_of o) (omega (arith, number_within count o within, sound.low_long))) not_low)
+        (λ s. ap (λ x. precedes x e) (standing_high low high o s)
+        ∙ not_before_by (entry_at high (number_of o)) h e (high_wins.none_before (number_of o) (omega (arith, number_within count o within, sound.high_long))) not_high)
+        (cases_lt (o % 8) 4)
+
+    empty : e ≡ nothing → IsEmpty (seen first count low high)
+    empty none k = ⊎_elim
+        (λ within. by_entry count low high k (sound.own k)
+        (λ n. seen_at first count low high k None within ∙ event_if_nothing first (standing low high k) n)
+        (λ r. absurd (both_ways (precedes (standing low high k) nothing) (ap (precedes (standing low high k)) (sym none) ∙ none_earlier k within) (before_nothing (standing low high k) r.early (omega (arith, r.own, r.within, sound.few))))))
+        (λ past. seen_past first count low high k past)
+        (cases_lt k count)
+
+    module _ (o : ℕ) (r : IsEntry count low high o e) where
+      back : (first + e.offset) - first ≡ o
+      back = omega (arith, r.own)
+
+      kept : slice_index_or (seen first count low high).events ((first + e.offset) - first) None ≡ Some (event_of first e)
+      kept = ap (λ k. slice_index_or (seen first count low high).events k None) back ∙ seen_at first count low high o None r.within ∙ ap (event_if first) r.stands ∙ event_if_some first e (omega (arith, r.own, r.within, sound.few))
+
+      least : IsLeast (seen first count low high) (event_of first e)
+      least = record {
+        has_place = (omega arith, omega (arith, length-seen first count low high, r.own, r.within));
+        is_kept = kept;
+        none_before = λ k f s.
+            let t = seen_some k f s in
+            ap (λ x. is_earlier x (event_of first e)) (sym t.1) ∙ is_earlier-event_of first (standing low high k) e ∙ none_earlier k t.0.within;
+      }
+
+      -- an event that the least isn't before is the least itself
+      alone : (k : ℕ) (f : Event) → slice_index_or (seen first count low high).events k None ≡ Some f → is_earlier (event_of first e) f ≡ false → f ≡ event_of first e
+      alone k f s not =
+          let t = seen_some k f s in
+          let at : f.place.0 ≡ first + k = ap (λ (v : Event). v.place.0) (sym t.1) ∙ ap (λ i. first + i) t.0.own in
+          let same : f.place.0 ≡ first + e.offset = same_place f (event_of first e) (least.none_before k f s) not in
+          let here : k ≡ (first + e.offset) - first = omega (arith, at, same) in
+          same_Some f (event_of first e) (sym s ∙ ap (λ i. slice_index_or (seen first count low high).events i None) here ∙ kept)
+
+      earliest : least_among (seen first count low high).events (length (seen first count low high).events) ≡ Some (event_of first e)
+      earliest = least_among-some (seen first count low high).events (length (seen first count low high).events) (event_of first e) ((first + e.offset) - first)
+          (omega (arith, length-seen first count low high, r.own, r.within)) kept least.none_before alone
+
+    pub fits : e.offset < 4294967295 → first + e.offset < 2 ^ 64
+    fits l = entry (λ none. absurd (omega (arith, ap (λ (x : Entry). x.offset) none, l))) (λ o r. omega (arith, r.own, r.within, sound.places))
+
+    pub least_is : (x : Option Event) (q : QueueView) → x ≡ event_if first e → seen first count low high ≡ q → MatchOption x (IsEmpty q) (λ y. IsLeast q y)
+    least_is x q is view = subst (λ (s : QueueView). MatchOption x (IsEmpty s) (λ y. IsLeast s y)) view (entry
+        (λ none. subst (λ (y : Option Event). MatchOption y (IsEmpty (seen first count low high)) (λ z. IsLeast (seen first count low high) z)) (sym (is ∙ event_if_nothing first e none)) (empty none))
+        (λ o r. subst (λ (y : Option Event). MatchOption y (IsEmpty (seen first count low high)) (λ z. IsLeast (seen first count low high) z)) (sym (is ∙ event_if_some first e (omega (arith, r.own, r.within, sound.few)))) (least o r)))
+
+    pub earliest_is : (x : Option Event) (q : QueueView) → x ≡ event_if first e → seen first count low high ≡ q → x ≡ least_among q.events (length q.events)
+    earliest_is x q is view = subst (λ (s : QueueView). x ≡ least_among s.events (length s.events)) view (entry
+        (λ none. is ∙ event_if_nothing first e none ∙ sym (least_among-none (seen first count low high).events (length (seen first count low high).events) (empty none)))
+        (λ o r. is ∙ event_if_some first e (omega (arith, r.own, r.within, sound.few)) ∙ sym (earliest o r)))

@@ -1,7 +1,6 @@
 pub mod Order
 pub mod Orders
-pub mod Views
-pub mod Seen
+pub mod Firsts
+pub mod Leaves
+pub mod Halves
 pub mod Leasts
-pub mod Room
-pub mod Changes

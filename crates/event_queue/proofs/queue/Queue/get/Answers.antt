@@ -1,20 +1,26 @@
-use Rattle.std.proofs.Common.{arith, length}
-use Rattle.event_queue.proofs.Seen.{seen_get, seen_get_none}
+use Rattle.std.proofs.Common.{◌-◌, arith}
+use Rattle.event_queue.proofs.Halves.{seen_place, seen_get, number_within}
 use Rattle.event_queue.proofs.queue.Queue.get.Goals as goal
 
-pub returns-then-at-len-clause-value : goal.returns-then-at-len-clause-value
-returns-then-at-len-clause-value c =
+pub overflow_cast-offset : goal.overflow_cast-offset
+overflow_cast-offset c =
     let q = c.self.inside in
-    let i = c.self.invariant in
-    (seen_get q.first q.heap.items (length q.heap.items) q.positions.items c.args.self.now c.args.place c.index.result.now c.index-then-at-len.result.now c.event.result c.self.view_is c.requires i.inverse c.index.ensures (omega arith) (omega arith) c.index-then-at-len.ensures c.event.ensures).0
+    let place = seen_place q.first q.count q.low q.high c.args.self.now c.args.place c.self.view_is c.requires in
+    omega arith
 
-pub returns-then-at-len-clause-place : goal.returns-then-at-len-clause-place
-returns-then-at-len-clause-place c =
+pub standing-requires-clause-low_within : goal.standing-requires-clause-low_within
+standing-requires-clause-low_within c =
     let q = c.self.inside in
-    let i = c.self.invariant in
-    (seen_get q.first q.heap.items (length q.heap.items) q.positions.items c.args.self.now c.args.place c.index.result.now c.index-then-at-len.result.now c.event.result c.self.view_is c.requires i.inverse c.index.ensures (omega arith) (omega arith) c.index-then-at-len.ensures c.event.ensures).1
+    let place = seen_place q.first q.count q.low q.high c.args.self.now c.args.place c.self.view_is c.requires in
+    omega (arith, number_within q.count (c.args.place.0 - q.first) place.1, c.self.invariant.low_long)
 
-pub returns-else-at-len-clause-value : goal.returns-else-at-len-clause-value
-returns-else-at-len-clause-value c =
+pub standing-requires-clause-high_within : goal.standing-requires-clause-high_within
+standing-requires-clause-high_within c =
     let q = c.self.inside in
-    seen_get_none q.first q.heap.items (length q.heap.items) q.positions.items c.args.self.now c.args.place c.index.result.now c.self.view_is c.requires c.index.ensures (omega arith)
+    let place = seen_place q.first q.count q.low q.high c.args.self.now c.args.place c.self.view_is c.requires in
+    omega (arith, number_within q.count (c.args.place.0 - q.first) place.1, c.self.invariant.high_long)
+
+pub returns-clause-value : goal.returns-clause-value
+returns-clause-value c =
+    let q = c.self.inside in
+    seen_get q.first q.count q.low q.high c.args.self.now c.args.place c.standing.result c.event_if.result c.self.view_is c.requires c.standing.ensures c.event_if.ensures
