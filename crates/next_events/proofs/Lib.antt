@@ -1,2 +1,3 @@
 mod Refreshing
+mod Filling
 pub mod LawLemmas
