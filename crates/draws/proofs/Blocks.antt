@@ -9,9 +9,9 @@ abbrev pub on : ChaCha → ℕ → ChaCha
 on g k = record g { word_pos = g.word_pos + 2 * k }
 
 -- one draw more
-pub one_more : (g : ChaCha) (k : ℕ) (old new : ChaCha) → old ≡ on g k → new ≡ record old { word_pos = (old.word_pos + 2) % 2 ^ 68 } → g.word_pos + 2 * k + 2 < 2 ^ 68 → new ≡ on g (suc k)
+pub one_more : (g : ChaCha) (k : ℕ) (old new : ChaCha) → old ≡ on g k → new ≡ record old { word_pos = (old.word_pos + 2) % 2 ^ 68 } → g.word_pos + 2 * k + 2 < 2 ^ 68 → new ≡ on g (k + 1)
 one_more g k old new is next below =
-    let place : (g.word_pos + 2 * k + 2) % 2 ^ 68 ≡ g.word_pos + 2 * suc k = mod-eq_of_lt below ∙ omega arith in
+    let place : (g.word_pos + 2 * k + 2) % 2 ^ 68 ≡ g.word_pos + 2 * (k + 1) = mod-eq_of_lt below ∙ omega arith in
     next ∙ (ap (λ (h : ChaCha). record h { word_pos = (h.word_pos + 2) % 2 ^ 68 }) is ∙ ap (λ p. record g { word_pos = p }) place)
 
 -- the draw of a generator so many draws on

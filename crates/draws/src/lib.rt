@@ -62,6 +62,22 @@ impl Drawer {
         rng.set_word_pos(u128::from(occurrence) * 16384 + 2 * u128::from(channel - skipped));
         draws_of_block(rng)[usize::from(skipped)]
     }
+
+    /// The draws of a place and an occurrence for 32 channels, from `32 * group` on: each is what `draw` gives. One
+    /// refill of the cipher makes them all, so where several of these channels are asked for, this is cheaper. The
+    /// occurrence is below 2^54, and the group below 256.
+    #[tactic(auto, unfolding(crate::specs::Draw::draw_of, crate::specs::Draw::word_of))]
+    pub fn draws(&self, place: Place, occurrence: u64, group: u16) -> [u64; 32]
+        requires occurrence_fits { occurrence < 2 ^ 54 }
+        requires group_fits { group < 256 }
+        ensures { (i : ℕ) → i < 32 → slice_index result i ≡ draw_of self.now place.0 occurrence (32 * group + i) }
+    {
+        // A refill makes 64 words, and the group begins at a multiple of 64: so no word is made twice.
+        let mut refilled = ChaCha8Rng::from_seed(self.key);
+        refilled.set_stream(place.0);
+        refilled.set_word_pos(u128::from(occurrence) * 16384 + 64 * u128::from(group));
+        draws_of_refill(refilled)
+    }
 }
 
 // The seed's eight bytes, least byte first, and 24 zero bytes.
@@ -100,6 +116,19 @@ fn draws_of_block(mut rng: ChaCha8Rng) -> [u64; 8]
         next_draw(&mut rng),
         next_draw(&mut rng),
     ]
+}
+
+// The 32 draws of the four blocks at whose first the generator stands: the words of one refill.
+#[inline]
+fn draws_of_refill(mut rng: ChaCha8Rng) -> [u64; 32]
+    requires { rng.word_pos + 64 ≤ 2 ^ 68 }
+    ensures { (i : ℕ) → i < 32 → slice_index result i ≡ draw_at rng (rng.word_pos + 2 * i) }
+{
+    let mut draws = [0; 32];
+    for draw in draws.iter_mut() {
+        *draw = next_draw(&mut rng);
+    }
+    draws
 }
 
 #[cfg(test)]

@@ -1,0 +1,10 @@
+use Rattle.std.proofs.Common.{◌≡◌, ℕ, ◌<◌, ◌+◌, ◌*◌, None, drop, slice_index}
+use Rattle.draws.specs.Draw.{draw_of}
+use Rattle.plan.specs.Next.{earliest}
+use Rattle.plan.proofs.plan.Plan.earliest_by_groups.Given as goal
+
+abbrev pub invariant-loop-channel : goal.invariant-loop-channel
+invariant-loop-channel l = record {
+  best : earliest l.self.seed l.place.0 l.occurrence l.from l.best (drop l.channel-index l.channels) ≡ earliest l.self.seed l.place.0 l.occurrence l.from None l.channels;
+  draws : (i : ℕ) → i < 32 → slice_index l.draws i ≡ draw_of l.self.seed l.place.0 l.occurrence (32 * l.group + i);
+}
