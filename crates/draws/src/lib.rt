@@ -49,34 +49,31 @@ impl Drawer {
     /// The draw of a place, an occurrence and a channel: the word at its place of the key stream, and the word
     /// after it as the high half. The occurrence is below 2^54, and the channel below 8192.
     #[inline]
-    #[tactic(auto, unfolding(crate::specs::Draw::draw_of, crate::specs::Draw::word_of))]
     pub fn draw(&self, place: Place, occurrence: u64, channel: u16) -> u64
         requires occurrence_fits { occurrence < 2 ^ 54 }
         requires channel_fits { channel < 8192 }
         ensures { result ≡ draw_of self.now place.0 occurrence channel }
     {
-        // The cipher makes its words by blocks of 16, and has least to do where it begins at a block's first.
-        let skipped = channel % 8;
-        let mut rng = ChaCha8Rng::from_seed(self.key);
-        rng.set_stream(place.0);
-        rng.set_word_pos(u128::from(occurrence) * 16384 + 2 * u128::from(channel - skipped));
-        draws_of_block(rng)[usize::from(skipped)]
+        self.draws(place, occurrence, channel / 8)[usize::from(channel % 8)]
     }
 
-    /// The draws of a place and an occurrence for 32 channels, from `32 * group` on: each is what `draw` gives. One
-    /// refill of the cipher makes them all, so where several of these channels are asked for, this is cheaper. The
-    /// occurrence is below 2^54, and the group below 256.
+    /// The draws of a place and an occurrence for eight channels, from `8 * block` on: each is what `draw` gives. They
+    /// are one block of the cipher, which is all of a draw's cost: so where several of these channels are asked for,
+    /// this is cheaper. The occurrence is below 2^54, and the block below 1024.
+    // Of all functions this one alone makes words: where the generator's refill has one caller, the compiler leaves out the
+    // three blocks of it that aren't asked for.
+    #[inline(never)]
     #[tactic(auto, unfolding(crate::specs::Draw::draw_of, crate::specs::Draw::word_of))]
-    pub fn draws(&self, place: Place, occurrence: u64, group: u16) -> [u64; 32]
+    pub fn draws(&self, place: Place, occurrence: u64, block: u16) -> [u64; 8]
         requires occurrence_fits { occurrence < 2 ^ 54 }
-        requires group_fits { group < 256 }
-        ensures { (i : ℕ) → i < 32 → slice_index result i ≡ draw_of self.now place.0 occurrence (32 * group + i) }
+        requires block_fits { block < 1024 }
+        ensures { (i : ℕ) → i < 8 → slice_index result i ≡ draw_of self.now place.0 occurrence (8 * block + i) }
     {
-        // A refill makes 64 words, and the group begins at a multiple of 64: so no word is made twice.
-        let mut refilled = ChaCha8Rng::from_seed(self.key);
-        refilled.set_stream(place.0);
-        refilled.set_word_pos(u128::from(occurrence) * 16384 + 64 * u128::from(group));
-        draws_of_refill(refilled)
+        // The cipher makes its words by blocks of 16, and has least to do where it begins at a block's first.
+        let mut rng = ChaCha8Rng::from_seed(self.key);
+        rng.set_stream(place.0);
+        rng.set_word_pos(u128::from(occurrence) * 16384 + 16 * u128::from(block));
+        draws_of_block(rng)
     }
 }
 
@@ -116,19 +113,6 @@ fn draws_of_block(mut rng: ChaCha8Rng) -> [u64; 8]
         next_draw(&mut rng),
         next_draw(&mut rng),
     ]
-}
-
-// The 32 draws of the four blocks at whose first the generator stands: the words of one refill.
-#[inline]
-fn draws_of_refill(mut rng: ChaCha8Rng) -> [u64; 32]
-    requires { rng.word_pos + 64 ≤ 2 ^ 68 }
-    ensures { (i : ℕ) → i < 32 → slice_index result i ≡ draw_at rng (rng.word_pos + 2 * i) }
-{
-    let mut draws = [0; 32];
-    for draw in draws.iter_mut() {
-        *draw = next_draw(&mut rng);
-    }
-    draws
 }
 
 #[cfg(test)]

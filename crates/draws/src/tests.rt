@@ -22,15 +22,15 @@ fn draws_of_the_rust_crate(rt: HostRuntime) {
     );
 }
 
-// The same words, in their groups.
+// The same words, in their blocks.
 #[test]
-fn groups_have_the_draws_of_the_rust_crate(rt: HostRuntime) {
+fn blocks_have_the_draws_of_the_rust_crate(rt: HostRuntime) {
     let seven = Drawer::new(7);
     assert_eq!(rt; seven.draws(Place(0), 0, 0)[0], 14_095_323_943_061_994_099);
     assert_eq!(rt; seven.draws(Place(5), 1, 0)[3], 17_955_294_034_719_033_957);
     let greatest = Drawer::new(u64::MAX);
     assert_eq!(rt;
-        greatest.draws(Place(u64::MAX), (1 << 54) - 1, 255)[31],
+        greatest.draws(Place(u64::MAX), (1 << 54) - 1, 1023)[7],
         10_724_664_596_400_196_491
     );
 }

@@ -5,7 +5,7 @@ ghost use Rattle.surf_kinds.specs.Channels.{rule_of_channel as rule_number};
 ghost use Rattle.plan.specs.Bounds.{IsWithinBounds};
 ghost use Rattle.plan.specs.ChannelIndex.{IsIndexed};
 ghost use Rattle.plan.specs.Channels.{reactants_of as reactants_at, channels_of, IsChannel};
-ghost use Rattle.plan.specs.Next.{latest, next_at, occurrence, earliest as earliest_from, armed as armed_at};
+ghost use Rattle.plan.specs.Next.{latest, next_at, occurrence, earliest as earliest_from};
 ghost use Rattle.rates.specs.Waits.{wait_of};
 ghost use Rattle.plan.specs.Products.{fits_place, has_two, products_of};
 
@@ -21,8 +21,8 @@ use surf_kinds::{
     Event, NoMemory, Place, Rule, SiteState, SpeciesId, rule_of_channel, way_of_channel,
 };
 
-// The channels of a group: those whose draws are made at once.
-const GROUP: u16 = 32;
+// The channels of a block: those whose draws are made at once.
+const BLOCK: u16 = 8;
 
 /// The rules of a program on a lattice, and the seed of its draws.
 #[derive(Drop)]
@@ -93,7 +93,8 @@ impl Plan {
         self.earliest(channels, place, occurrence, from)
     }
 
-    /// The earliest event of these channels of a place, at its occurrence, whose waits begin at a tick.
+    /// The earliest event of these channels of a place, at its occurrence, whose waits begin at a tick. The draws of a
+    /// block are made once for the channels in it that follow one another.
     // Most places have no channel, and are passed without a call of this.
     #[inline(never)]
     fn earliest(
@@ -108,59 +109,21 @@ impl Plan {
         requires from { from ≤ 10 ^ 15 }
         ensures { result ≡ earliest_from self.now.seed place.0 occurrence from None channels.now }
     {
-        if are_close(channels) {
-            return self.earliest_by_groups(channels, place, occurrence, from);
-        }
-        let mut best = None;
-        for channel in channels {
-            best = earlier(best, Some(self.armed(*channel, place, occurrence, from)));
-        }
-        best
-    }
-
-    /// As `earliest`, but the draws of a whole group are made at once, and kept for the channels after it that are in
-    /// the group.
-    // The kept draws are large, and most places do without them.
-    #[inline(never)]
-    fn earliest_by_groups(
-        &self,
-        channels: &[Channel],
-        place: Place,
-        occurrence: u64,
-        from: u64,
-    ) -> Option<Event>
-        requires channels { All IsChannel channels.now }
-        requires occurrence { occurrence < 2 ^ 54 }
-        requires from { from ≤ 10 ^ 15 }
-        ensures { result ≡ earliest_from self.now.seed place.0 occurrence from None channels.now }
-    {
         let Some(first) = channels.first() else {
             return None;
         };
-        let mut group = first.number / GROUP;
-        let mut draws = self.drawer.draws(place, occurrence, group);
+        let mut block = first.number / BLOCK;
+        let mut draws = self.drawer.draws(place, occurrence, block);
         let mut best = None;
         for channel in channels {
-            if channel.number / GROUP != group {
-                group = channel.number / GROUP;
-                draws = self.drawer.draws(place, occurrence, group);
+            if channel.number / BLOCK != block {
+                block = channel.number / BLOCK;
+                draws = self.drawer.draws(place, occurrence, block);
             }
-            let draw = draws[usize::from(channel.number % GROUP)];
-            best = earlier(best, Some(armed_by(*channel, place, from, draw)));
+            let draw = draws[usize::from(channel.number % BLOCK)];
+            best = earlier(best, Some(armed(*channel, place, from, draw)));
         }
         best
-    }
-
-    /// The event of a channel.
-    #[inline]
-    fn armed(&self, channel: Channel, place: Place, occurrence: u64, from: u64) -> Event
-        requires channel { IsChannel channel }
-        requires occurrence { occurrence < 2 ^ 54 }
-        requires from { from ≤ 10 ^ 15 }
-        ensures { result ≡ armed_at self.now.seed place.0 occurrence from channel }
-    {
-        let draw = self.drawer.draw(place, occurrence, channel.number);
-        armed_by(channel, place, from, draw)
     }
 
     /// Whether the number is a place of the lattice, and the channel one of a rule with that place's number of sites. A
@@ -190,22 +153,9 @@ impl Plan {
     }
 }
 
-/// Whether there are two channels or more to each group from the first one's to the last one's, where the numbers
-/// rise. Then the draws of whole groups cost less than a draw for each, and both give the same event.
-#[inline]
-fn are_close(channels: &[Channel]) -> bool {
-    match channels {
-        [first, .., last] => {
-            let further = (last.number / GROUP).saturating_sub(first.number / GROUP);
-            channels.len() / 2 > usize::from(further)
-        }
-        _ => false,
-    }
-}
-
 /// The event of a channel whose draw is made.
 #[inline]
-fn armed_by(channel: Channel, place: Place, from: u64, draw: u64) -> Event
+fn armed(channel: Channel, place: Place, from: u64, draw: u64) -> Event
     requires channel { IsChannel channel }
     requires from { from ≤ 10 ^ 15 }
     ensures { result ≡ record { time = from + wait_of channel.rate draw; place = place; channel = channel.number } }
