@@ -31,6 +31,3 @@ mod writing;
 pub use bench::{Bench, read_bench};
 pub use fault::{BenchError, BenchFault, BenchKind};
 pub use writing::write_circuit;
-
-#[cfg(test)]
-mod tests;

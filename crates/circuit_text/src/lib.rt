@@ -28,6 +28,3 @@ pub use circuit::Circuit;
 pub use fault::{CircuitError, CircuitFault, CircuitKind};
 pub use kinds::{GateOp, Net};
 pub use reading::read_circuit;
-
-#[cfg(test)]
-mod tests;

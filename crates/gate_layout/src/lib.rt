@@ -29,6 +29,3 @@ pub use layout::{Layout, TooManySites};
 pub use placement::Placement;
 pub use role::Role;
 pub use table::Roles;
-
-#[cfg(test)]
-mod tests;

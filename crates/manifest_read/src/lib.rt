@@ -32,6 +32,3 @@ pub use reading::read_manifest;
 pub use section::{Opened, Section};
 pub use settings::{bool_name, kind_name};
 pub use text::{Setting, Text};
-
-#[cfg(test)]
-mod tests;

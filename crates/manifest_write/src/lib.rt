@@ -12,6 +12,3 @@ mod writing;
 
 pub use laws::{made_is_read, one_spelling, read_again};
 pub use writing::write_manifest;
-
-#[cfg(test)]
-mod tests;

@@ -32,6 +32,3 @@ pub fn read_duration(text: &[u8]) -> Option<u64>
     }
     Some(ticks as u64)
 }
-
-#[cfg(test)]
-mod tests;

@@ -17,6 +17,3 @@ mod waits;
 pub use durations::read_duration;
 pub use reading::read_rate;
 pub use waits::{wait, wait_bounds};
-
-#[cfg(test)]
-mod tests;

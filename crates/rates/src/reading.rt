@@ -124,6 +124,3 @@ pub fn read_rate(text: &[u8]) -> Option<Rate>
         q: q as u32,
     })
 }
-
-#[cfg(test)]
-mod tests;

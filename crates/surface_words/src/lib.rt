@@ -15,6 +15,3 @@ mod words;
 
 pub use commands::Program;
 pub use words::Words;
-
-#[cfg(test)]
-mod tests;

@@ -21,6 +21,3 @@ mod tracks;
 
 pub use manifest::compact;
 pub use tracks::{TrackError, Tracks};
-
-#[cfg(test)]
-mod tests;

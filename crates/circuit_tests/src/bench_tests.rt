@@ -1,4 +1,6 @@
-use super::*;
+//! Netlists, their faults, and the circuit texts that are written of them.
+
+use bench_read::{BenchError, BenchKind, read_bench, write_circuit};
 use circuit_text::read_circuit;
 use std::alloc::Global;
 use std::test::Fail;

@@ -1,5 +1,10 @@
-use super::*;
+//! Manifests as they are read, and their faults.
+
+use crate::texts::DEMO;
 use lattice::Kind;
+use manifest_read::{
+    ManifestError, ManifestFault, ManifestKind, Setting, Settings, Text, read_manifest,
+};
 use std::alloc::Global;
 use std::test::Fail;
 use surf_kinds::{Rate, Rule, SpeciesId};
@@ -24,9 +29,6 @@ fn at(kind: ManifestKind, at: u64) -> Option<ManifestFault> {
     Some(ManifestFault { kind, at })
 }
 
-const DEMO: &[u8] =
-    b"# Demo\npixels_per_node = 50\nrng_seed\t= 7\t# a seed\nmax_duration = 2.50\nfps = 60\n\n!START_TRANSITION_RULES\n(1) A + B -> B + A\n(0.25)\tC->A\n!END_TRANSITION_RULES\n\n!START_INIT_STATE\nA B\nC  A\n!END_INIT_STATE\n\n!START_COLORMAP\nA: (255, 0, 0)\n!END_COLORMAP\n";
-
 #[test]
 fn a_manifest_is_read_whole(rt: HostRuntime) -> Result<(), Fail> {
     let read = shared(read_manifest(rt.alloc(), DEMO)?);
@@ -49,6 +51,7 @@ fn a_manifest_is_read_whole(rt: HostRuntime) -> Result<(), Fail> {
     Ok(())
 }
 
+#[tactic(auto, using(surf_kinds::proofs::Fractions::whole_reduced, surf_kinds::proofs::Fractions::one_over_reduced))]
 #[test]
 fn rules_rows_and_colours_are_read(rt: HostRuntime) -> Result<(), Fail> {
     let read = read_manifest(rt.alloc(), DEMO)?;

@@ -1,14 +1,14 @@
+//! The canonical texts of manifests.
+
 ghost use Rattle.std.specs.Prelude.{◌≤◌, length};
 
-use super::*;
+use crate::texts::DEMO;
 use manifest_read::read_manifest;
+use manifest_write::{one_spelling, read_again, write_manifest};
 use std::alloc::Global;
 use std::process::Abort;
 use std::test::Fail;
 use surf_outside::{Failed, MemSink};
-
-const DEMO: &[u8] =
-    b"# Demo\npixels_per_node = 50\nrng_seed\t= 7\t# a seed\nmax_duration = 2.50\nfps = 60\n\n!START_TRANSITION_RULES\n(1) A + B -> B + A\n(0.25)\tC->A\n!END_TRANSITION_RULES\n\n!START_INIT_STATE\nA B\nC  A\n!END_INIT_STATE\n\n!START_COLORMAP\nA: (255, 0, 0)\n!END_COLORMAP\n";
 
 const DEMO_AGAIN: &[u8] =
     b"rng_seed = 7\nmax_duration = 2.5\nlattice = square\nwrap = false\npixels_per_node = 50\nfps = 60\n!START_TRANSITION_RULES\n(1) A + B -> B + A\n(1/4) C -> A\n!END_TRANSITION_RULES\n!START_INIT_STATE\nA B\nC A\n!END_INIT_STATE\n!START_COLORMAP\nA: (255, 0, 0)\n!END_COLORMAP\n";

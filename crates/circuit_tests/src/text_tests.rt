@@ -1,4 +1,6 @@
-use super::*;
+//! The texts of circuits, their faults, and the values of nets.
+
+use circuit_text::{Circuit, CircuitError, CircuitKind, GateOp, Net, read_circuit};
 use std::alloc::Global;
 use std::test::Fail;
 use surf_text::Digits;

@@ -1,4 +1,6 @@
-use super::*;
+//! Rates and durations as they are read, and waits.
+
+use rates::{read_duration, read_rate, wait, wait_bounds};
 use surf_kinds::Rate;
 
 #[tactic(auto, using(surf_kinds::proofs::Fractions::whole_reduced, surf_kinds::proofs::Fractions::one_over_reduced))]
@@ -45,4 +47,66 @@ fn the_mean_wait_is_one_over_the_rate(rt: HostRuntime) {
     assert!(rt; four.abs_diff(250_000) < 100);
     let eighth = mean_wait(Rate { p: 1, q: 8 });
     assert!(rt; eighth.abs_diff(8_000_000) < 1_000);
+}
+
+#[test]
+fn rates_are_read(rt: HostRuntime) {
+    for (text, p, q) in [
+        ("2/4", 1, 2),
+        (" 1 / 2 ", 1, 2),
+        ("0/7", 0, 1),
+        ("000000000000000006/4", 3, 2),
+        ("999999999000000000/999999999", 1000000000, 1),
+        ("1e-3", 1, 1000),
+        ("1e-03", 1, 1000),
+        ("1e9", 1000000000, 1),
+        (".25", 1, 4),
+        ("2.50", 5, 2),
+        ("0.0e5", 0, 1),
+    ] {
+        assert_eq!(rt;
+            read_rate(text.as_bytes()).map(|rate| (rate.p, rate.q)),
+            Some((p, q))
+        );
+    }
+}
+
+#[test]
+fn other_texts_are_no_rates(rt: HostRuntime) {
+    for text in [
+        "",
+        " ",
+        "/",
+        "1/0",
+        "0/0",
+        "-1",
+        "1e10",
+        "1000000001",
+        "1.5/2",
+        "1/2/3",
+        "1 2",
+        "1/2000000001",
+        "0.0000000001",
+        "0000000000000000001/2",
+    ] {
+        assert_eq!(rt; read_rate(text.as_bytes()), None);
+    }
+}
+
+#[test]
+fn durations_are_read(rt: HostRuntime) {
+    for (text, ticks) in [
+        ("2.50", Some(2_500_000)),
+        ("0.000003", Some(3)),
+        ("1000000000", Some(1_000_000_000_000_000)),
+        ("1e9", Some(1_000_000_000_000_000)),
+        ("1000000001", None),
+        ("0.0000009", Some(0)),
+        ("1e-9", Some(0)),
+        ("", None),
+        ("-1", None),
+        ("1e10", None),
+    ] {
+        assert_eq!(rt; read_duration(text.as_bytes()), ticks);
+    }
 }

@@ -1,5 +1,8 @@
-use super::*;
-use circuit_text::{Circuit, read_circuit};
+//! The crossbar layout: roles, and what fills the halves of cells.
+
+use crate::circuits::{XOR, chain};
+use circuit_text::read_circuit;
+use gate_layout::{Layout, Role, Roles, TooManySites};
 use std::alloc::Global;
 use std::test::Fail;
 
@@ -54,8 +57,6 @@ fn rank_at<T: Roles>(table: &T, row: u32, col: u32, half: u8) -> u64 {
         0
     }
 }
-
-const XOR: &[u8] = b"input a b\nx = XOR a b\noutput x\n";
 
 #[test]
 fn a_gate_of_two_operands_is_laid_out(rt: HostRuntime) -> Result<(), Fail> {
@@ -146,34 +147,13 @@ fn halves_are_filled_from_their_neighbours(rt: HostRuntime) -> Result<(), Fail> 
     Ok(())
 }
 
-/// A name of two letters for each number below 676.
-fn add_name(text: &mut Vec<u8>, number: u32) -> Result<(), Fail> {
-    text.push(b'a' + (number / 26 % 26) as u8)?;
-    text.push(b'a' + (number % 26) as u8)?;
-    Ok(())
-}
-
-/// One input, and so many gates that each pass on the net before.
-fn chain(alloc: Global, gates: u32) -> Result<Circuit, Fail> {
-    let mut text = b"input aa\noutput aa\n".to_vec(alloc)?;
-    for gate in 0..gates {
-        add_name(&mut text, gate + 1)?;
-        text.extend_from_slice(b" = BUF ")?;
-        add_name(&mut text, gate)?;
-        text.push(b'\n')?;
-    }
-    // far longer than the texts of these tests
-    text.truncate(1_000_000);
-    Ok(read_circuit(alloc, &text)?)
-}
-
 #[test]
 fn no_more_than_1048576_cells_are_laid_out(rt: HostRuntime) -> Result<(), Fail> {
     let alloc = rt.alloc();
-    let most = chain(alloc, 294)?;
+    let most = chain(alloc, 294, 0)?;
     let laid = Layout::of(&most)?;
     assert_eq!(rt; laid.rows() * laid.cols(), 1_046_064);
-    let more = chain(alloc, 295)?;
+    let more = chain(alloc, 295, 0)?;
     assert_eq!(rt;
         Layout::of(&more).err(),
         Some(TooManySites { sites: 1_053_162 })

@@ -1,7 +1,9 @@
-use super::*;
+//! The words of a command line, and the first wrong one.
+
 use std::alloc::{AllocError, Global};
 use std::test::Fail;
 use surf_text::word_list;
+use surface_words::{Program, Words};
 
 /// Reads the words of a line.
 fn read(alloc: Global, line: &str, program: Program) -> Result<Result<Words, usize>, AllocError> {
