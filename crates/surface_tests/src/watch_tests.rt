@@ -248,7 +248,8 @@ fn some_line_shows_some(alloc: Global, notes: &[u8]) -> Result<bool, Fail> {
 }
 
 /// Whether one of many watches shows a state while the run goes on. Which states a viewer sees is left open, so this looks
-/// until one of them lies between the first and the last.
+/// until one of them lies between the first and the last. The counts are published after each round, so rounds are short
+/// and samples are many.
 fn is_seen_meanwhile<R: Threads + Wait + Sync + Abort>(
     rt: &R,
     alloc: Global,
@@ -257,7 +258,7 @@ fn is_seen_meanwhile<R: Threads + Wait + Sync + Abort>(
         passed: AtomicU64::new(0),
     };
     for _ in 0..200u32 {
-        let line = "watch --viewers 4 --frames 500 --samples 0";
+        let line = "watch --viewers 16 --frames 1000 --quota 16 --samples 0";
         let seen = watch(rt, &gate, alloc, line, FLIPS, OPEN)?;
         if seen.answered.status != Status::Done {
             return Ok(false);
