@@ -60,9 +60,9 @@ impl Drawer {
     /// The draws of a place and an occurrence for eight channels, from `8 * block` on: each is what `draw` gives. They
     /// are one block of the cipher, which is all of a draw's cost: so where several of these channels are asked for,
     /// this is cheaper. The occurrence is below 2^54, and the block below 1024.
-    // Of all functions this one alone makes words: where the generator's refill has one caller, the compiler leaves out the
-    // three blocks of it that aren't asked for.
-    #[inline(never)]
+    // Where a program calls this at one place alone, the compiler leaves out the three blocks of the generator's refill that
+    // aren't asked for.
+    #[inline]
     #[tactic(auto, unfolding(crate::specs::Draw::draw_of, crate::specs::Draw::word_of))]
     pub fn draws(&self, place: Place, occurrence: u64, block: u16) -> [u64; 8]
         requires occurrence_fits { occurrence < 2 ^ 54 }

@@ -109,15 +109,13 @@ impl Plan {
         requires from { from ≤ 10 ^ 15 }
         ensures { result ≡ earliest_from self.now.seed place.0 occurrence from None channels.now }
     {
-        let Some(first) = channels.first() else {
-            return None;
-        };
-        let mut block = first.number / BLOCK;
-        let mut draws = self.drawer.draws(place, occurrence, block);
+        let mut made = None;
+        let mut draws = [0; 8];
         let mut best = None;
         for channel in channels {
-            if channel.number / BLOCK != block {
-                block = channel.number / BLOCK;
+            let block = channel.number / BLOCK;
+            if made != Some(block) {
+                made = Some(block);
                 draws = self.drawer.draws(place, occurrence, block);
             }
             let draw = draws[usize::from(channel.number % BLOCK)];
