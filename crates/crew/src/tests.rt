@@ -35,7 +35,6 @@ const SMALLEST: CrewSettings = CrewSettings {
     slots: 1,
 };
 
-#[tactic(auto, using(surf_kinds::proofs::Fractions::one_over_reduced))]
 fn one_over(q: u32) -> Rate
     requires { (1 ≤ q) × (q ≤ 1000) }
 {

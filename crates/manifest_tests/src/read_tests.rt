@@ -3,9 +3,10 @@
 use crate::texts::DEMO;
 use lattice::Kind;
 use manifest_read::{
-    ManifestError, ManifestFault, ManifestKind, Setting, Settings, Text, read_manifest,
+    Manifest, ManifestError, ManifestFault, ManifestKind, Setting, Settings, Text, read_manifest,
 };
 use std::alloc::Global;
+use std::process::Abort;
 use std::test::Fail;
 use surf_kinds::{Rate, Rule, SpeciesId};
 
@@ -29,9 +30,8 @@ fn at(kind: ManifestKind, at: u64) -> Option<ManifestFault> {
     Some(ManifestFault { kind, at })
 }
 
-#[test]
-fn a_manifest_is_read_whole(rt: HostRuntime) -> Result<(), Fail> {
-    let read = shared(read_manifest(rt.alloc(), DEMO)?);
+/// Sees the settings and the names of a manifest.
+fn sees_settings<R: Abort>(rt: &R, read: &Manifest) {
     assert_eq!(rt; read.seed, 7);
     assert_eq!(rt; read.until, 2_500_000);
     assert!(rt; read.lattice.kind() == Kind::Square);
@@ -48,13 +48,11 @@ fn a_manifest_is_read_whole(rt: HostRuntime) -> Result<(), Fail> {
     for (name, number) in [("A", 0), ("B", 1), ("C", 2)] {
         assert_eq!(rt; read.names.find(name), Some(SpeciesId(number)));
     }
-    Ok(())
 }
 
+/// Sees the rules, the rows and the colours of a manifest.
 #[tactic(auto, using(surf_kinds::proofs::Fractions::whole_reduced, surf_kinds::proofs::Fractions::one_over_reduced))]
-#[test]
-fn rules_rows_and_colours_are_read(rt: HostRuntime) -> Result<(), Fail> {
-    let read = read_manifest(rt.alloc(), DEMO)?;
+fn sees_sections<R: Abort>(rt: &R, read: &Manifest) -> Result<(), Fail> {
     let [a, b, c] = [SpeciesId(0), SpeciesId(1), SpeciesId(2)];
     let two = Rule::Two {
         rate: Rate { p: 1, q: 1 },
@@ -77,10 +75,14 @@ fn rules_rows_and_colours_are_read(rt: HostRuntime) -> Result<(), Fail> {
 }
 
 #[test]
-fn names_are_numbered_by_the_rules_first(rt: HostRuntime) -> Result<(), Fail> {
-    let text =
-        b"\xef\xbb\xbflattice = hex\r\nwrap = True\r\nempty =\r\n!START_INIT_STATE\r\nB A\r\n!END_INIT_STATE\r\n!START_COLORMAP\r\n\r\n # B: red \r\n!END_COLORMAP\r\n!START_TRANSITION_RULES\r\nA -> C # decay\r\n!END_TRANSITION_RULES";
-    let read = read_manifest(rt.alloc(), text)?;
+fn a_manifest_is_read_whole(rt: HostRuntime) -> Result<(), Fail> {
+    let read = shared(read_manifest(rt.alloc(), DEMO)?);
+    sees_settings(&rt, &read);
+    sees_sections(&rt, &read)
+}
+
+/// Sees a manifest whose cells stand before its rules.
+fn sees_cells_first<R: Abort>(rt: &R, read: &Manifest) -> Result<(), Fail> {
     assert!(rt; read.lattice.kind() == Kind::Hex);
     assert!(rt; read.lattice.wrap());
     assert_eq!(rt; read.until, 100_000_000);
@@ -99,6 +101,14 @@ fn names_are_numbered_by_the_rules_first(rt: HostRuntime) -> Result<(), Fail> {
     assert_eq!(rt; colours.len(), 1);
     assert_eq!(rt; colours[0].as_str(), "# B: red");
     Ok(())
+}
+
+#[test]
+fn names_are_numbered_by_the_rules_first(rt: HostRuntime) -> Result<(), Fail> {
+    let text =
+        b"\xef\xbb\xbflattice = hex\r\nwrap = True\r\nempty =\r\n!START_INIT_STATE\r\nB A\r\n!END_INIT_STATE\r\n!START_COLORMAP\r\n\r\n # B: red \r\n!END_COLORMAP\r\n!START_TRANSITION_RULES\r\nA -> C # decay\r\n!END_TRANSITION_RULES";
+    let read = read_manifest(rt.alloc(), text)?;
+    sees_cells_first(&rt, &read)
 }
 
 #[test]

@@ -1,5 +1,7 @@
 -- What becomes of two regions with rings between them at each call.
-use Rattle.std.proofs.Common.{◌≡◌, ◌≢◌, ℕ, Bool, true, false, refl, sym, ap, ◌∙◌, subst, arith, Option, Some, None}
+use Rattle.std.proofs.Common.{◌≡◌, ◌≢◌, ℕ, Bool, true, false, [], length, refl, sym, ap, ◌∙◌, subst, arith, Option, Some, None}
+use Rattle.std.specs.Prelude.{◌++◌, drop}
+use Rattle.border.specs.Ends.{OutView, InView}
 use Rattle.plan.specs.Network.{Network}
 use Rattle.regions.specs.Bands.{Bands}
 use Rattle.surface_state.specs.SurfaceView.{SurfaceView}
@@ -10,7 +12,7 @@ use Rattle.region_run.specs.Regions.{Base, IsRegion, ends_with}
 use Rattle.region_run.specs.Runs.{StepsOn, SameSide, SameRings}
 use Rattle.region_run.specs.Starts.{SameButRoom, IsRoomier, IsFirst, first_base}
 use Rattle.region_run.specs.Turns.{IsAttached}
-use Rattle.region_run.specs.Channels.{AreTied}
+use Rattle.region_run.specs.Channels.{IsOneRing, AreTied}
 use Rattle.region_run.specs.Deliveries.{ArePaired, IsDelivery, IsNoDelivery, HasLooked}
 use Rattle.region_run.proofs.Delivering.{rings_same}
 use Rattle.region_tests.specs.Pairs.{IsPair}
@@ -111,6 +113,9 @@ delivered n b r s r' s' false h none one =
     }
 
 -- New regions
+
+pub new_ring : (o : OutView) (i : InView) → o.ring ≡ i.ring → i.received ≡ [] → IsOneRing o i
+new_ring o i one none = record { ring = one; received = subst (λ l. l ++ drop (length l) o.sent ≡ o.sent) (sym none) refl }
 
 pub made : (n : Network) (b : Bands) (start : SurfaceView) (e f : Ends) (r s r' s' : Region) → IsFirst n b 0 start r → IsFirst n b 1 start s → IsAttached 1 e r r' → IsAttached 0 f s s'
     → IsRegion n b 5 (first_base start) r' → IsRegion n b 5 (first_base start) s' → AreTied (Some e) (Some f) → IsPair n b r' s'

@@ -5,18 +5,17 @@ use border::Op;
 use lattice::{Kind, Lattice};
 use std::alloc::Global;
 use std::test::Fail;
+use surf_kinds::NoMemory;
 
 /// Region 1 of two rows of one site, A and B, with A + B -> C + D on a pair and B -> E.
-fn second_of_two(alloc: Global) -> Result<Option<Walk>, Fail> {
+fn second_of_two(alloc: Global) -> Result<Walk, Fail> {
     let lattice = Lattice::new(Kind::Square, 2, 1, false)?;
-    Ok(Walk::new(alloc, &pair_rules(), lattice, &[A, B])?)
+    let walk = Walk::new(alloc, &pair_rules(), lattice, &[A, B])?;
+    Ok(walk.ok_or("one region only")?)
 }
 
 /// Whether Puts that aren't lawful cut nothing, and leave clock and next key as they are.
-fn passes_over_unlawful_puts(alloc: Global) -> Result<bool, Fail> {
-    let Some(mut walk) = second_of_two(alloc)? else {
-        return Ok(false);
-    };
+fn passes_over_unlawful_puts(walk: &mut Walk) -> Result<bool, NoMemory> {
     let puts = [
         event(3, 8, 2),
         event(3, 0, 2),
@@ -34,15 +33,13 @@ fn passes_over_unlawful_puts(alloc: Global) -> Result<bool, Fail> {
 
 #[test]
 fn unlawful_puts_are_passed_over(rt: HostRuntime) -> Result<(), Fail> {
-    assert!(rt; passes_over_unlawful_puts(rt.alloc())?);
+    let mut walk = second_of_two(rt.alloc())?;
+    assert!(rt; passes_over_unlawful_puts(&mut walk)?);
     Ok(())
 }
 
 /// Whether the region goes back for a Back, and then for a Put.
-fn goes_back_twice(alloc: Global) -> Result<bool, Fail> {
-    let Some(mut walk) = second_of_two(alloc)? else {
-        return Ok(false);
-    };
+fn goes_back_twice(walk: &mut Walk) -> Result<bool, NoMemory> {
     let stepped = walk.step()?;
     let back = walk.takes(Op::Back(key(1, 8)), 1, key(1, 8), key(1, 8))?;
     let again = walk.step()?;
@@ -52,15 +49,13 @@ fn goes_back_twice(alloc: Global) -> Result<bool, Fail> {
 
 #[test]
 fn a_message_cuts_what_lies_behind_it(rt: HostRuntime) -> Result<(), Fail> {
-    assert!(rt; goes_back_twice(rt.alloc())?);
+    let mut walk = second_of_two(rt.alloc())?;
+    assert!(rt; goes_back_twice(&mut walk)?);
     Ok(())
 }
 
 /// Whether a region applies an event that it received, and forgets it at a commit.
-fn forgets_what_it_received(alloc: Global) -> Result<bool, Fail> {
-    let Some(mut walk) = second_of_two(alloc)? else {
-        return Ok(false);
-    };
+fn forgets_what_it_received(alloc: Global, walk: &mut Walk) -> Result<bool, NoMemory> {
     let put = walk.takes(Op::Put(event(1, 2, 0)), 0, key(0, 0), key(1, 2))?;
     let stepped = walk.step()?;
     let own = walk.own(alloc)?;
@@ -69,6 +64,7 @@ fn forgets_what_it_received(alloc: Global) -> Result<bool, Fail> {
 
 #[test]
 fn a_commit_forgets_received_events(rt: HostRuntime) -> Result<(), Fail> {
-    assert!(rt; forgets_what_it_received(rt.alloc())?);
+    let mut walk = second_of_two(rt.alloc())?;
+    assert!(rt; forgets_what_it_received(rt.alloc(), &mut walk)?);
     Ok(())
 }

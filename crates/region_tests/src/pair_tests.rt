@@ -1,11 +1,10 @@
 //! Two regions with rings between them.
 
-ghost use Rattle.std.specs.Prelude.{◌≡◌, ◌<◌, ◌≤◌, ◌*◌, length, All, IfOk};
+ghost use Rattle.std.specs.Prelude.{◌≡◌, ◌<◌, ◌≤◌, ◌*◌, length, All};
 ghost use Rattle.plan.specs.Products.{LeavesWithin};
-ghost use Rattle.region_run.specs.Channels.{IsOneRing};
 
 use crate::walk::{A, B, UNTIL, pair_rules};
-use border::{InEnd, OutEnd, ring};
+use border::ring;
 use lattice::{Kind, Lattice};
 use plan::Plan;
 use region_run::{Region, Turn, deliver, look};
@@ -36,13 +35,6 @@ impl Model for Pair {
     ghost invariant = { λ p. IsPair p.plan p.cut p.upper p.lower };
 }
 
-/// The ends of a ring with two slots.
-fn new_ring(alloc: Global) -> Result<(OutEnd, InEnd), NoMemory>
-    ensures { IfOk result (λ r. IsOneRing r.0 r.1) }
-{
-    ring(alloc, 2)
-}
-
 impl Pair {
     /// The two regions of a surface of these cells; or none where there is only one.
     fn new(
@@ -62,8 +54,8 @@ impl Pair {
         if cut.count() < 2 {
             return Ok(None);
         }
-        let (down, from_upper) = new_ring(alloc)?;
-        let (up, from_lower) = new_ring(alloc)?;
+        let (down, from_upper) = ring(alloc, 2)?;
+        let (up, from_lower) = ring(alloc, 2)?;
         let mut upper = Region::new(alloc, 0, &cut, &plan, &surface)?;
         let mut lower = Region::new(alloc, 1, &cut, &plan, &surface)?;
         upper.attach(1, down, from_lower)?;
@@ -95,6 +87,12 @@ impl Pair {
         Ok(deliver(&self.plan, &self.cut, &mut self.upper, &mut self.lower))
     }
 
+    /// Applies the first entries of both regions, the lower one's first, and hands the upper one's message down. Answers
+    /// whether there was all that.
+    fn meet(&mut self) -> Result<bool, NoMemory> {
+        Ok(self.step_lower()? && self.step_upper()? && self.hand_down()?)
+    }
+
     /// Makes a turn of two entries of each region, the lower one first.
     fn turn_each(self) -> Result<(Turn, Turn), NoMemory> {
         let Pair {
@@ -112,41 +110,34 @@ impl Pair {
 }
 
 /// The two regions of two rows of one site, A and B, with A + B -> C + D on a pair and B -> E.
-fn both_of_two(alloc: Global) -> Result<Option<Pair>, Fail> {
+fn both_of_two(alloc: Global) -> Result<Pair, Fail> {
     let lattice = Lattice::new(Kind::Square, 2, 1, false)?;
-    Ok(Pair::new(alloc, &pair_rules(), lattice, &[A, B])?)
+    let pair = Pair::new(alloc, &pair_rules(), lattice, &[A, B])?;
+    Ok(pair.ok_or("one region only")?)
 }
 
-/// What the two regions' turns do, after both applied their first events and the upper one's was handed down.
-fn turns_of_two(alloc: Global) -> Result<Option<(Turn, Turn)>, Fail> {
-    let Some(mut pair) = both_of_two(alloc)? else {
-        return Ok(None);
-    };
-    if !pair.step_lower()? || !pair.step_upper()? || !pair.hand_down()? {
-        return Ok(None);
-    }
-    Ok(Some(pair.turn_each()?))
-}
-
-/// Whether the lower region's turn applies what it received, and the upper one's takes the Put and the Back.
-fn messages_go_both_ways(alloc: Global) -> Result<bool, Fail> {
-    let lower = Turn {
+/// Whether the lower region's turn applied what it had received, and the upper one's took a Put and a Back.
+fn went_both_ways(turns: (Turn, Turn)) -> bool {
+    let (lower, upper) = turns;
+    let applied = Turn {
         added: 1,
         taken: 0,
         cut: 0,
         empty: true,
     };
-    let upper = Turn {
+    let took = Turn {
         added: 0,
         taken: 2,
         cut: 0,
         empty: true,
     };
-    Ok(turns_of_two(alloc)? == Some((lower, upper)))
+    lower == applied && upper == took
 }
 
 #[test]
 fn messages_go_between_two_regions(rt: HostRuntime) -> Result<(), Fail> {
-    assert!(rt; messages_go_both_ways(rt.alloc())?);
+    let mut pair = both_of_two(rt.alloc())?;
+    assert!(rt; pair.meet()?);
+    assert!(rt; went_both_ways(pair.turn_each()?));
     Ok(())
 }

@@ -12,6 +12,7 @@ use plan::{Plan, rescan};
 use regions::Cut;
 use std::alloc::Global;
 use std::marker::Model;
+use std::process::Abort;
 use std::test::Fail;
 use surf_kinds::{Event, Key, NoMemory, Place, Rate, Rule, SiteState, SpeciesId, rule_of_channel};
 use surface_state::Surface;
@@ -314,8 +315,51 @@ fn wander(
     Ok(Some(undone))
 }
 
-#[test]
-fn a_guess_is_undone_and_the_rest_committed(rt: HostRuntime) -> Result<(), Fail> {
+/// Region 1 applies an event, and then region 0 an earlier one on the same site. Each sends the other a message.
+fn both_fire<R: Abort>(rt: &R, walk: &mut Walk) -> Result<(), Fail> {
+    assert!(rt; walk.makes(Step::Fire { region: 1 })?);
+    assert_eq!(rt; walk.last_sent(1, 0), Some(Op::Put(event(1, 8, 2))));
+    assert!(rt; walk.makes(Step::Fire { region: 0 })?);
+    assert_eq!(rt; walk.last_sent(0, 1), Some(Op::Put(event(1, 2, 0))));
+    Ok(())
+}
+
+/// Region 1 takes the message, undoes its event, and takes back what it sent.
+fn the_later_is_undone<R: Abort>(rt: &R, walk: &mut Walk) -> Result<(), Fail> {
+    assert!(rt; walk.makes(Step::Take { from: 0, to: 1 })?);
+    assert_eq!(rt; walk.clock(1), Some(key(1, 2)));
+    assert_eq!(rt; walk.last_sent(1, 0), Some(Op::Back(key(1, 8))));
+    assert_eq!(rt; walk.waiting(1, 0), 2);
+    assert_eq!(rt; walk.waiting(0, 1), 0);
+    Ok(())
+}
+
+/// A commit goes as far as the horizon, and not beyond it.
+fn the_earlier_is_committed<R: Abort>(rt: &R, walk: &mut Walk) -> Result<(), Fail> {
+    assert!(rt; walk.makes(Step::Commit { key: key(1, 2) })?);
+    assert_eq!(rt; walk.config.committed().len(), 0);
+    assert!(rt; !walk.makes(Step::Commit { key: key(1, 3) })?);
+    assert!(rt; walk.makes(Step::Pass { region: 1 })?);
+    assert!(rt; walk.makes(Step::Commit { key: key(1, 3) })?);
+    assert_eq!(rt; walk.config.committed(), [event(1, 2, 0)].as_slice());
+    Ok(())
+}
+
+/// Region 0 takes both messages, and nothing else happens up to the end.
+fn all_comes_to_its_end<R: Abort>(rt: &R, walk: &mut Walk) -> Result<(), Fail> {
+    assert!(rt; walk.makes(Step::Take { from: 1, to: 0 })?);
+    assert!(rt; walk.makes(Step::Take { from: 1, to: 0 })?);
+    assert_eq!(rt; walk.waiting(1, 0), 0);
+    assert!(rt; walk.makes(Step::Pass { region: 0 })?);
+    assert!(rt; walk.makes(Step::Pass { region: 1 })?);
+    assert!(rt; walk.makes(Step::Commit { key: key(6, 0) })?);
+    assert_eq!(rt; walk.config.committed(), [event(1, 2, 0)].as_slice());
+    assert_eq!(rt; walk.config.horizon(), key(6, 0));
+    Ok(())
+}
+
+/// Two regions of one site, A and B, with A + B -> C + D on a pair and B -> E.
+fn two_sites(alloc: Global) -> Result<Walk, Fail> {
     let rules = [
         Rule::Two {
             rate: instant(),
@@ -331,31 +375,16 @@ fn a_guess_is_undone_and_the_rest_committed(rt: HostRuntime) -> Result<(), Fail>
         },
     ];
     let lattice = Lattice::new(Kind::Square, 2, 1, false)?;
-    let mut walk = Walk::new(rt.alloc(), lattice, &rules, &[A, B], 2, 5)?;
-    assert!(rt; walk.makes(Step::Fire { region: 1 })?);
-    assert_eq!(rt; walk.last_sent(1, 0), Some(Op::Put(event(1, 8, 2))));
-    assert!(rt; walk.makes(Step::Fire { region: 0 })?);
-    assert_eq!(rt; walk.last_sent(0, 1), Some(Op::Put(event(1, 2, 0))));
-    assert!(rt; walk.makes(Step::Take { from: 0, to: 1 })?);
-    assert_eq!(rt; walk.clock(1), Some(key(1, 2)));
-    assert_eq!(rt; walk.last_sent(1, 0), Some(Op::Back(key(1, 8))));
-    assert_eq!(rt; walk.waiting(1, 0), 2);
-    assert_eq!(rt; walk.waiting(0, 1), 0);
-    assert!(rt; walk.makes(Step::Commit { key: key(1, 2) })?);
-    assert_eq!(rt; walk.config.committed().len(), 0);
-    assert!(rt; !walk.makes(Step::Commit { key: key(1, 3) })?);
-    assert!(rt; walk.makes(Step::Pass { region: 1 })?);
-    assert!(rt; walk.makes(Step::Commit { key: key(1, 3) })?);
-    assert_eq!(rt; walk.config.committed(), [event(1, 2, 0)].as_slice());
-    assert!(rt; walk.makes(Step::Take { from: 1, to: 0 })?);
-    assert!(rt; walk.makes(Step::Take { from: 1, to: 0 })?);
-    assert_eq!(rt; walk.waiting(1, 0), 0);
-    assert!(rt; walk.makes(Step::Pass { region: 0 })?);
-    assert!(rt; walk.makes(Step::Pass { region: 1 })?);
-    assert!(rt; walk.makes(Step::Commit { key: key(6, 0) })?);
-    assert_eq!(rt; walk.config.committed(), [event(1, 2, 0)].as_slice());
-    assert_eq!(rt; walk.config.horizon(), key(6, 0));
-    Ok(())
+    Ok(Walk::new(alloc, lattice, &rules, &[A, B], 2, 5)?)
+}
+
+#[test]
+fn a_guess_is_undone_and_the_rest_committed(rt: HostRuntime) -> Result<(), Fail> {
+    let mut walk = two_sites(rt.alloc())?;
+    both_fire(&rt, &mut walk)?;
+    the_later_is_undone(&rt, &mut walk)?;
+    the_earlier_is_committed(&rt, &mut walk)?;
+    all_comes_to_its_end(&rt, &mut walk)
 }
 
 #[test]
